@@ -6,6 +6,7 @@ pub mod Numbers
 pub mod Rows
 pub mod Waves
 pub mod Parts
+pub mod Slices
 pub mod Frames
 pub mod Thin
 pub mod Cuts

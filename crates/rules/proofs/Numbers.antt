@@ -3,14 +3,16 @@ use mathlib.Core.Path.{_≡_, refl, sym, ap, ap₂, _∙_, subst, fun-ext}
 use Prim.Native.Nat.{ℕ, zero, suc, _+_, _-_, _*_, _/_, _%_, _^_, _≤_, _<_}
 use native.Mathlib.Nat.{div-lt-iff-lt-mul, pow-suc, pow-zero, mod-add-div, add-mul-mod-self-left, mod-eq-of-lt, add-mul-div-left, div-eq-of-lt, mod-lt, lt-of-lt-of-le, zero-add, mul-le-mul-left, pow-le-pow-right, add-sub-cancel-left, add-sub-of-le}
 use native.Mathlib.Omega.{arith}
-use mathlib.Core.Bool.{Bool, true, false}
+use mathlib.Core.Bool.{Bool, true, false, _&&_, false≢true}
 use mathlib.Core.List.{List, [], _∷_, _++_, map, reverseAux, flatten, reverse-reverse, append-assoc, cons-ne-nil, head-eq-of-cons-eq, tail-eq-of-cons-eq}
 use lib.ListN.{length, getD, take, drop, length-append, length-drop, length-reverse, replicate, take-append-drop}
 use lib.Seq.{take-at, drop-at, length-take-le, drop-drop, take-add}
 use lib.Dec.{ltb, eqb}
-use borrow.Author.Tests.{ltb-true, ltb-false, eqb-true, eqb-false, lt-ltb, le-ltb, ne-eqb}
+use borrow.Author.Tests.{ltb-true, ltb-false, eqb-true, eqb-false, lt-ltb, le-ltb, eq-eqb, ne-eqb}
 use Rattle.rules.specs.Numbers.{Below, low, digits, turn, number, bytes, numbers, allBytes, total, rows, pieces, startsFrom}
 use Rattle.rules.specs.Template.{widthAt, fields, laid}
+use Rattle.rules.specs.Rules.{same}
+use Rattle.rules.proofs.Tests.{and-true, and-intro}
 use Rattle.rules.proofs.Template.{Above}
 
 -- ---- every element is below b
@@ -36,6 +38,30 @@ below-append b (d ∷ ds) es h k = (h .0, below-append b ds es (h .1) k)
 pub below-reverse : (b : ℕ) (ds es : List ℕ) → Below b ds → Below b es → Below b (reverseAux ds es)
 below-reverse b [] es h k = k
 below-reverse b (d ∷ ds) es h k = below-reverse b ds (d ∷ es) (h .1) (h .0, k)
+
+-- ---- runs of bytes compared
+
+same-refl : (xs : List ℕ) → same xs xs ≡ true
+same-refl [] = refl
+same-refl (x ∷ xs) = and-intro (eqb x x) (same xs xs) (eq-eqb x x refl) (same-refl xs)
+
+same-eq : (xs ys : List ℕ) → same xs ys ≡ true → xs ≡ ys
+same-eq [] [] e = refl
+same-eq [] (y ∷ ys) e = absurd (false≢true e)
+same-eq (x ∷ xs) [] e = absurd (false≢true e)
+same-eq (x ∷ xs) (y ∷ ys) e = let p = and-true (eqb x y) (same xs ys) e in ap₂ {C = List ℕ} (λ a b. a ∷ b) (eqb-true x y (p .0)) (same-eq xs ys (p .1))
+
+-- the first n elements, and the rest
+pub same-split : (n : ℕ) (xs ys : List ℕ) → n ≤ length xs → n ≤ length ys → same xs ys ≡ same (take n xs) (take n ys) && same (drop n xs) (drop n ys)
+same-split zero xs ys h k = refl
+same-split (suc n) [] ys h k = absurd (omega arith)
+same-split (suc n) (x ∷ xs) [] h k = absurd (omega arith)
+same-split (suc n) (x ∷ xs) (y ∷ ys) h k =
+    ap (λ (b : Bool). eqb x y && b) (same-split n xs ys (omega arith) (omega arith)) ∙ assoc (eqb x y) (same (take n xs) (take n ys)) (same (drop n xs) (drop n ys))
+  where
+    assoc : (a b c : Bool) → a && (b && c) ≡ (a && b) && c
+    assoc true b c = refl
+    assoc false b c = refl
 
 -- ---- one number
 
@@ -90,6 +116,19 @@ bytes-again o q bs h =
 pub bytes-number : (o : ℕ) (bs : List ℕ) → Below 256 bs → bytes o (length bs) (number o bs) ≡ bs
 unfolding number bytes
 bytes-number o bs h = bytes-again o o bs h ∙ turn-turn o bs
+
+-- two runs of bytes are the same where their numbers are
+pub same-number : (o : ℕ) (xs ys : List ℕ) → Below 256 xs → Below 256 ys → length xs ≡ length ys → eqb (number o xs) (number o ys) ≡ same xs ys
+same-number o xs ys ha hb l = go (eqb (number o xs) (number o ys)) refl (same xs ys) refl
+  where
+    alike : number o xs ≡ number o ys → xs ≡ ys
+    alike e = sym (bytes-number o xs ha) ∙ ap₂ {C = List ℕ} (λ w n. bytes o w n) l e ∙ bytes-number o ys hb
+
+    go : (x : Bool) → eqb (number o xs) (number o ys) ≡ x → (y : Bool) → same xs ys ≡ y → x ≡ y
+    go true e true f = refl
+    go true e false f = absurd (false≢true (sym f ∙ subst (λ (cs : List ℕ). same xs cs ≡ true) (alike (eqb-true (number o xs) (number o ys) e)) (same-refl xs)))
+    go false e true f = absurd (false≢true (sym e ∙ eq-eqb (number o xs) (number o ys) (ap (number o) (same-eq xs ys f))))
+    go false e false f = refl
 
 pub length-bytes : (o w n : ℕ) → length (bytes o w n) ≡ w
 unfolding bytes
@@ -197,6 +236,18 @@ pub below-allBytes : (o w : ℕ) (ns : List ℕ) → Below 256 (allBytes o w ns)
 unfolding flatten
 below-allBytes o w [] = tt
 below-allBytes o w (n ∷ ns) = below-append 256 (bytes o w n) (allBytes o w ns) (below-bytes o w n) (below-allBytes o w ns)
+
+-- two texts are the same where their numbers of w bytes are
+pub same-numbers : (o w n : ℕ) (xs ys : List ℕ) → Below 256 xs → Below 256 ys → length xs ≡ n * w → length ys ≡ n * w → same xs ys ≡ same (numbers o w n xs) (numbers o w n ys)
+unfolding pieces
+same-numbers o w zero [] [] hx hy l m = refl
+same-numbers o w zero [] (y ∷ ys) hx hy l m = absurd (omega arith)
+same-numbers o w zero (x ∷ xs) ys hx hy l m = absurd (omega arith)
+same-numbers o w (suc n) xs ys hx hy l m =
+    let a : length (take w xs) ≡ length (take w ys) = length-take-le w xs (omega arith) ∙ sym (length-take-le w ys (omega arith)) in
+    same-split w xs ys (omega arith) (omega arith)
+    ∙ ap₂ {C = Bool} (λ p q. p && q) (sym (same-number o (take w xs) (take w ys) (below-take 256 w xs hx) (below-take 256 w ys hy) a))
+    (same-numbers o w n (drop w xs) (drop w ys) (below-drop 256 w xs hx) (below-drop 256 w ys hy) (omega (arith, length-drop w xs)) (omega (arith, length-drop w ys)))
 
 pub low-below : (b : ℕ) (ds : List ℕ) → Below b ds → low b ds < b ^ length ds
 unfolding low
