@@ -1,10 +1,10 @@
 -- What is written is read back, and what is read is written back: over the base, the width, the order and the list.
 use mathlib.Core.Path.{_≡_, refl, sym, ap, ap₂, _∙_, subst, fun-ext}
 use Prim.Native.Nat.{ℕ, zero, suc, _+_, _-_, _*_, _/_, _%_, _^_, _≤_, _<_}
-use native.Mathlib.Nat.{div-lt-iff-lt-mul, pow-suc, pow-zero, mod-add-div, add-mul-mod-self-left, mod-eq-of-lt, add-mul-div-left, div-eq-of-lt, mod-lt, lt-of-lt-of-le, zero-add, mul-le-mul-left, pow-le-pow-right, add-sub-cancel-left, add-sub-of-le}
+use native.Mathlib.Nat.{mul-add, mul-assoc, mul-comm, div-lt-iff-lt-mul, pow-suc, pow-zero, mod-add-div, add-mul-mod-self-left, mod-eq-of-lt, add-mul-div-left, div-eq-of-lt, mod-lt, lt-of-lt-of-le, zero-add, mul-le-mul-left, pow-le-pow-right, add-sub-cancel-left, add-sub-of-le}
 use native.Mathlib.Omega.{arith}
-use mathlib.Core.Bool.{Bool, true, false, _&&_, false≢true}
-use mathlib.Core.List.{List, [], _∷_, _++_, map, reverseAux, flatten, reverse-reverse, append-assoc, cons-ne-nil, head-eq-of-cons-eq, tail-eq-of-cons-eq}
+use mathlib.Core.Bool.{Bool, true, false, cond, _&&_, false≢true}
+use mathlib.Core.List.{List, [], _∷_, _++_, map, reverse, reverseAux, reverse-append, flatten, reverse-reverse, append-assoc, cons-ne-nil, head-eq-of-cons-eq, tail-eq-of-cons-eq}
 use lib.ListN.{length, getD, take, drop, length-append, length-drop, length-reverse, replicate, take-append-drop}
 use lib.Seq.{take-at, drop-at, length-take-le, drop-drop, take-add}
 use lib.Dec.{ltb, eqb}
@@ -254,6 +254,22 @@ unfolding low
 low-below b [] h = omega (arith, pow-zero b)
 low-below b (d ∷ ds) h =
     omega (arith, pow-suc b (length ds), mul-le-mul-left b (low-below b ds (h .1)))
+
+-- a number is that of the bytes in front and that of those behind
+low-append : (b : ℕ) (xs ys : List ℕ) → low b (xs ++ ys) ≡ low b xs + b ^ length xs * low b ys
+unfolding low
+low-append b [] ys = let e : low b ys ≡ 0 + 1 * low b ys = omega arith in e ∙ ap (λ (p : ℕ). 0 + p * low b ys) (sym (pow-zero b))
+low-append b (x ∷ xs) ys =
+    ap (λ (n : ℕ). x + b * n) (low-append b xs ys) ∙ mul-add-out b x (low b xs) (b ^ length xs) (low b ys) ∙ ap (λ (n : ℕ). x + b * low b xs + n * low b ys) (sym (pow-suc b (length xs)))
+  where
+    mul-add-out : (b x m p n : ℕ) → x + b * (m + p * n) ≡ x + b * m + p * b * n
+    mul-add-out b x m p n = omega (arith, mul-add b m (p * n), sym (mul-assoc b p n), ap (λ (k : ℕ). k * n) (mul-comm b p))
+
+pub number-apart : (o : ℕ) (xs ys : List ℕ)
+    → number o (xs ++ ys) ≡ cond (eqb o 0) (number o ys + 256 ^ length ys * number o xs) (number o xs + 256 ^ length xs * number o ys)
+unfolding number
+number-apart zero xs ys = ap (low 256) (reverse-append xs ys) ∙ low-append 256 (reverse ys) (reverse xs) ∙ ap (λ (n : ℕ). low 256 (reverse ys) + 256 ^ n * low 256 (reverse xs)) (length-reverse ys)
+number-apart (suc o) xs ys = rw (ne-eqb (suc o) 0 (omega arith)) (low-append 256 xs ys)
 
 pub number-below : (o w : ℕ) (bs : List ℕ) → Below 256 bs → length bs ≤ w → number o bs < 256 ^ w
 unfolding number

@@ -12,7 +12,7 @@ use lib.Dec.{eqb, ltb}
 use borrow.Author.Tests.{ltb-false, eqb-true}
 use Rattle.rules.specs.Numbers.{number, numbers, low, total, pieces, upFrom}
 use Rattle.rules.specs.Template.{template, widthAt, fields, headAt}
-use Rattle.rules.specs.Wave.{headOf, lengthsOf, startsOf, decode}
+use Rattle.rules.specs.Wave.{headOf, lengthsOf, startsOf, decode, waveOf}
 use Rattle.rules.specs.Rules.{every?, payloadStart, stated, payload}
 use Rattle.rules.proofs.Tests.{and-true}
 use Rattle.rules.proofs.Template.{total-template}
@@ -125,15 +125,23 @@ numbers-take o w (suc n) m xs h =
     ap₂ {C = List ℕ} (λ l r. number o l ∷ r) (take-take w m xs a) (ap (numbers o w n) (drop-take w m xs) ∙ numbers-take o w n (m - w) (drop w xs) b)
 
 module _ (s : List ℕ) (r : Ruled (payload s)) (hi : payloadStart s + stated s ≤ length s) where
+  -- part j itself
+  pub part-there : (j : ℕ) → j < 10 → part (payload s) r j ≡ take (getD (lengthsOf (headOf (payload s))) j 0) (drop (payloadStart s + getD (startsOf (headOf (payload s))) j 0) s)
+  part-there j l =
+      let d : ℕ → ℕ = headOf (payload s) in
+      part-is (payload s) r j l
+      ∙ payload-part s hi (getD (lengthsOf d) j 0) (getD (startsOf d) j 0) (omega (arith, part-end (length (payload s)) d (r .tile) j l, payload-length s hi))
+
   -- the numbers of part j, read from the slice
   pub part-read : (o w n j : ℕ) → j < 10 → n * w ≤ getD (lengthsOf (headOf (payload s))) j 0
       → numbers o w n (part (payload s) r j) ≡ numbers o w n (drop (payloadStart s + getD (startsOf (headOf (payload s))) j 0) s)
   part-read o w n j l h =
       let d : ℕ → ℕ = headOf (payload s) in
-      let a : ℕ = getD (lengthsOf d) j 0 in
-      let k : ℕ = getD (startsOf d) j 0 in
-      let e : k + a ≤ stated s = omega (arith, part-end (length (payload s)) d (r .tile) j l, payload-length s hi) in
-      ap (numbers o w n) (part-is (payload s) r j l ∙ payload-part s hi a k e) ∙ numbers-take o w n a (drop (payloadStart s + k) s) h
+      ap (numbers o w n) (part-there j l) ∙ numbers-take o w n (getD (lengthsOf d) j 0) (drop (payloadStart s + getD (startsOf d) j 0) s) h
+
+  pub text-there : decode (payload s) .text ≡ take (headOf (payload s) 40) (drop (payloadStart s + getD (startsOf (headOf (payload s))) 1 0) s)
+  unfolding decode waveOf part
+  text-there = part-there 1 (omega arith)
 
   pub trig-read : flatten (decode (payload s) .trig) ≡ numbers (headOf (payload s) 34) 8 (headOf (payload s) 48 / 8) (drop (payloadStart s + getD (startsOf (headOf (payload s))) 3 0) s)
   trig-read = trig-numbers (payload s) r ∙ part-read (headOf (payload s) 34) 8 (headOf (payload s) 48 / 8) 3 (omega arith) (omega (arith, trig-eighths (payload s) r))

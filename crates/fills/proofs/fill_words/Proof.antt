@@ -1,0 +1,71 @@
+-- Each turn writes the next value.
+use mathlib.Core.Path.{_≡_, refl}
+use mathlib.Core.List.{_++_}
+use Prim.Native.Nat.{_-_, _≤_}
+use native.Mathlib.Omega.{arith}
+use lib.ListN.{length, drop, length-set}
+use borrow.Author.Needs.{needs}
+use Rattle.rules.specs.Numbers.{upFrom}
+use Rattle.fills.specs.Fills.{valuesAt}
+use Rattle.fills.proofs.Loops.{values-next}
+use Rattle.fills.proofs.fill_words.Statement.{statement}
+use Rattle.fills.proofs.fill_words.Tie as tie
+
+abbrev Inv-loop : tie.InvT-loop
+Inv-loop block from count order gain offset out₀ i₀ out i =
+    (i ≤ count) × (length out ≡ length out₀) × (out ≡ valuesAt gain offset order 2 block from i ++ drop i out₀)
+
+abbrev μ-loop : tie.MeasureT-loop
+μ-loop block from count order gain offset out₀ i₀ out i = count - i
+
+loop-holds : tie.Need-loop-holds Inv-loop μ-loop
+unfolding valuesAt upFrom
+loop-holds c = (search needs, refl, refl)
+
+word-requires : tie.Need-word-requires Inv-loop μ-loop
+word-requires c κs = search needs
+
+mul-out : tie.Need-mul-out Inv-loop μ-loop
+mul-out c = search needs
+
+slice-write-out : tie.Need-slice-write-out Inv-loop μ-loop
+slice-write-out c = search needs
+
+add-i : tie.Need-add-i Inv-loop μ-loop
+add-i c = search needs
+
+loop-less : tie.Need-loop-less Inv-loop μ-loop
+loop-less c = search needs
+
+loop-again : tie.Need-loop-again Inv-loop μ-loop
+loop-again c =
+    let l = c .before .before .loop in
+    let a = c .before .before .before .before .before .args in (
+      omega arith,
+      simp length-set (l .inv .1),
+      values-next (a .gain) (a .offset) (a .order) 2 (a .block .now) (a .from) (l .i) (c .word .result) (c .word .ensures .0) (a .out .now) (l .out) (omega arith) (l .inv .2),
+    )
+
+same-length : tie.Need-same-length Inv-loop μ-loop
+same-length c = c .before .loop .inv .1
+
+returns : tie.Need-returns Inv-loop μ-loop
+returns c =
+    let e : c .before .loop .i ≡ c .before .before .before .before .args .count = omega arith in
+    rw e at (c .before .loop .inv .2)
+
+pub fill-words-spec : {M : Type 1} → statement M
+fill-words-spec =
+    tie.close
+    (tie.spec
+    Inv-loop
+    μ-loop
+    loop-holds
+    word-requires
+    mul-out
+    slice-write-out
+    add-i
+    loop-less
+    loop-again
+    same-length
+    returns)
