@@ -2,15 +2,17 @@
 -- combined call (`cut-of-cut`).
 use mathlib.Core.Path.{_≡_, refl, sym, ap, _∙_, subst}
 use mathlib.Core.List.{List}
-use Prim.Native.Nat.{ℕ, zero, suc, _+_}
+use Prim.Native.Nat.{ℕ, zero, suc, _+_, _*_}
 use lib.ListN.{length, take, drop}
 use lib.Seq.{take-append-seam}
 use Rattle.rules.specs.Numbers.{Bytes, splice}
 use Rattle.rules.specs.Wave.{points}
 use Rattle.rules.specs.Rules.{opened}
 use Rattle.rules.specs.Points.{pointRefusal}
-use Rattle.rules.specs.Cut.{Setup, count, cutBytes, cutRefusal, combined}
+use Rattle.rules.specs.Cut.{Setup, step, count, orElse, cutBytes, cutRefusal, combined}
 use Rattle.rules.proofs.Demands.{KeptPoint, Small, OneCut, demand-3}
+use Rattle.points.specs.Points.{pointAs}
+use Rattle.points.proofs.Bounds.{point-answer, point-number}
 use Rattle.cuts.specs.declared.Written.{Written}
 use Rattle.cuts.specs.Cuts.{answer, writtenAs, unlessRefused, outAs}
 
@@ -54,13 +56,20 @@ module _ (s : List ℕ) (c : Setup) (q : ℕ) (out : List ℕ) (w : Written) (le
 
 -- ---- demand 3
 
--- the one call: it answers what the second call answered, writes the same block, and leaves the same in the whole of the same output; each point
--- of that block has the value and the time that it had in s; and the setup's numbers fit 32 bits
+-- `point` on a kept point answers what it answers on the first block
+kept-answer : (s t : List ℕ) (c : Setup) (x g k : ℕ) → pointRefusal t x g k ≡ 0 → KeptPoint s t c x g k → pointAs t x g k ≡ pointAs s x (orElse (c .sn) g) (c .fp + step c * k)
+kept-answer s t c x g k e p =
+    point-answer t x g k e
+    ∙ (λ i. record { refusal = 0; value = p .same-value i; time = p .same-time i })
+    ∙ sym (point-answer s x (orElse (c .sn) g) (c .fp + step c * k) (p .answered))
+
+-- the one call: it answers what the second call answered, writes the same block, and leaves the same in the whole of the same output; `point` on
+-- that block answers what it answers on s, value and time bit for bit; and the setup's numbers fit 32 bits
 pub record OneCall (s : List ℕ) (c : Setup) (out₂ out₃ : List ℕ) (w₂ w₃ : Written) (l₂ l₃ : List ℕ) : Type 0 where
   pub same-answer : w₃ ≡ w₂
   pub same-block : take (w₃ .length) l₃ ≡ take (w₂ .length) l₂
   pub same-slice : out₃ ≡ out₂ → l₃ ≡ l₂
-  pub same-points : (x g k : ℕ) → pointRefusal (take (w₃ .length) l₃) x g k ≡ 0 → KeptPoint s (take (w₃ .length) l₃) c x g k
+  pub same-points : (x g k : ℕ) → pointAs (take (w₃ .length) l₃) x g k .refusal ≡ 0 → pointAs (take (w₃ .length) l₃) x g k ≡ pointAs s x (orElse (c .sn) g) (c .fp + step c * k)
   pub small : Small c
 
 module _
@@ -88,6 +97,11 @@ module _
     same-written : take (w₃ .length) l₃ ≡ cutBytes q b (cutBytes p a s)
     same-written = wrote s (combined a b (count b (points (opened (cutBytes p a s) .head)))) q out₃ w₃ l₃ combined-call accepted ∙ law .same-bytes
 
+    points-kept : (x g k : ℕ) → pointRefusal (take (w₃ .length) l₃) x g k ≡ 0 → KeptPoint s (take (w₃ .length) l₃) (combined a b (w₂ .count)) x g k
+    points-kept =
+        subst (λ (t : List ℕ). (x g k : ℕ) → pointRefusal t x g k ≡ 0 → KeptPoint s t (combined a b (w₂ .count)) x g k) (sym same-written)
+        (subst (λ (c : Setup). (x g k : ℕ) → pointRefusal (cutBytes q b (cutBytes p a s)) x g k ≡ 0 → KeptPoint s (cutBytes q b (cutBytes p a s)) c x g k) (sym setup-is) (law .same-points))
+
     pub cut-of-cut : OneCall s (combined a b (w₂ .count)) out₂ out₃ w₂ w₃ l₂ l₃
     cut-of-cut = record {
       same-answer =
@@ -99,8 +113,6 @@ module _
           filled s (combined a b (count b (points (opened (cutBytes p a s) .head)))) q out₃ w₃ l₃ combined-call accepted
           ∙ (λ i. splice (e i) 0 (law .same-bytes i))
           ∙ sym (filled (cutBytes p a s) b q out₂ w₂ l₂ then z₂);
-      same-points =
-          subst (λ (t : List ℕ). (x g k : ℕ) → pointRefusal t x g k ≡ 0 → KeptPoint s t (combined a b (w₂ .count)) x g k) (sym same-written)
-          (subst (λ (c : Setup). (x g k : ℕ) → pointRefusal (cutBytes q b (cutBytes p a s)) x g k ≡ 0 → KeptPoint s (cutBytes q b (cutBytes p a s)) c x g k) (sym setup-is) (law .same-points));
+      same-points = λ x g k e. let z = sym (point-number (take (w₃ .length) l₃) x g k) ∙ e in kept-answer s (take (w₃ .length) l₃) (combined a b (w₂ .count)) x g k z (points-kept x g k z);
       small = subst Small (sym setup-is) (law .small);
     }

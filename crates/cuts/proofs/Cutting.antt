@@ -20,11 +20,11 @@ use Rattle.rules.proofs.Thin.{count-reach}
 use Rattle.rules.proofs.Cuts.{kept-rows}
 use Rattle.rules.proofs.Keeps.{count-le}
 use Rattle.rules.proofs.Waves.{Fits, part, order-of, ris-numbers, ris-eighths}
-use Rattle.rules.proofs.Parts.{part-end}
 use Rattle.rules.proofs.Slices.{payload-head, payload-byte, part-there}
 use Rattle.rules.proofs.Frames.{length-framed}
 use Rattle.rules.proofs.Accepts.{Good, length-encode}
-use Rattle.rules.proofs.Opened.{sized-opened, payload-there, length-payload, ruled-opened, shape-opened, fits-opened, good-opened}
+use Rattle.rules.proofs.Samples.{part-within}
+use Rattle.rules.proofs.Opened.{sized-opened, payload-there, ruled-opened, shape-opened, fits-opened, good-opened}
 use Rattle.rules.proofs.Demands.{Allowed, cut-shape, cut-fits, cut-length}
 use Rattle.block.specs.declared.Opened.{Opened}
 use Rattle.block.specs.Opened.{layoutOf, calibrationOf, acceptedAs}
@@ -64,15 +64,9 @@ recordOf s = acceptedAs (payloadStart s) (opened s .head) (layoutOf (opened s .h
 -- ---- the parts of an accepted block
 
 module _ (s : List ℕ) (b : Bytes s) (e : refusal s ≡ 0) where
-  part-place : ℕ → ℕ
-  part-place j = payloadStart s + getD (startsOf (opened s .head)) j 0
-
   part-piece : (j : ℕ) → j < 10 → part (payload s) (ruled-opened s b e) j ≡ piece s (payloadStart s + getD (startsOf (opened s .head)) j 0) (getD (lengthsOf (opened s .head)) j 0)
   unfolding opened decode waveOf
   part-piece j l = part-there s (ruled-opened s b e) (payload-there s b e) j l
-
-  pub part-room : (j : ℕ) → j < 10 → payloadStart s + getD (startsOf (opened s .head)) j 0 + getD (lengthsOf (opened s .head)) j 0 ≤ length s
-  part-room j l = omega (arith, part-end (length (payload s)) (opened s .head) (good-opened s b e .tile) j l, length-payload s b e, payload-there s b e)
 
   pub head-is : headAt (opened s .head 34) (payloadStart s) s ≡ opened s .head
   unfolding opened decode waveOf
@@ -137,7 +131,7 @@ module _ (s : List ℕ) (b : Bytes s) (e : refusal s ≡ 0) where
     array-written j k =
         sym
         (ap (λ (t : List (List ℕ)). allBytes q (sizeOf (opened s .head)) (flatten (map (kept c) (only (c .sn) t)))) (array-is (arrayOf j) j (numbered j k))
-        ∙ array-rows (opened s .head 34) q (sizeOf (opened s .head)) s (payloadStart s + getD (startsOf (opened s .head)) j 0) (getD (lengthsOf (opened s .head)) j 0) (fw .order) (al .order) b (part-room j (part-below j k))
+        ∙ array-rows (opened s .head 34) q (sizeOf (opened s .head)) s (payloadStart s + getD (startsOf (opened s .head)) j 0) (getD (lengthsOf (opened s .head)) j 0) (fw .order) (al .order) b (part-within s b e j (part-below j k))
         (segments (opened s .head)) (points (opened s .head)) (omega arith) (omega arith) (array-size j k) c (al .taken .segment))
 
     -- every sample that is kept stands in its array
@@ -145,7 +139,7 @@ module _ (s : List ℕ) (b : Bytes s) (e : refusal s ≡ 0) where
         → payloadStart s + getD (startsOf (opened s .head)) j 0 + (c .sn - 1) * (points (opened s .head) * sizeOf (opened s .head)) + c .fp * sizeOf (opened s .head) + i * (points (opened s .head) * sizeOf (opened s .head)) + k * (step c * sizeOf (opened s .head)) + sizeOf (opened s .head) ≤ length s
     sample-room j there i k hi hk =
         let n : c .sn - 1 + i < segments (opened s .head) = omega (arith, skip-rows (c .sn) (segments (opened s .head)) (al .taken .segment) (omega arith)) in
-        omega (arith, rows-room (c .sn - 1 + i) (segments (opened s .head)) (points (opened s .head) * sizeOf (opened s .head)) n, rows-room (c .fp + step c * k) (points (opened s .head)) (sizeOf (opened s .head)) (count-reach c k (points (opened s .head)) hk), array-size j there, part-room j (part-below j there))
+        omega (arith, rows-room (c .sn - 1 + i) (segments (opened s .head)) (points (opened s .head) * sizeOf (opened s .head)) n, rows-room (c .fp + step c * k) (points (opened s .head)) (sizeOf (opened s .head)) (count-reach c k (points (opened s .head)) hk), array-size j there, part-within s b e j (part-below j there))
 
     -- ---- TRIGTIME and RISTIME
 
@@ -153,14 +147,14 @@ module _ (s : List ℕ) (b : Bytes s) (e : refusal s ≡ 0) where
     trig-size h = ⊎-elim (λ (z : opened s .head 48 ≡ 0). absurd (h z)) (λ (z : opened s .head 48 ≡ 16 * segments (opened s .head)). omega arith) (gd .counts .trig)
 
     pub trig-room : (opened s .head 48 ≡ 0 → ⊥) → payloadStart s + getD (startsOf (opened s .head)) 3 0 + (c .sn - 1) * 16 + oneIf (c .sn) (segments (opened s .head)) * 2 * 8 ≤ length s
-    trig-room h = omega (arith, skip-rows (c .sn) (segments (opened s .head)) (al .taken .segment) (omega arith), trig-size h, part-room 3 (omega arith))
+    trig-room h = omega (arith, skip-rows (c .sn) (segments (opened s .head)) (al .taken .segment) (omega arith), trig-size h, part-within s b e 3 (omega arith))
 
     pub trig-written : (opened s .head 48 ≡ 0 → ⊥)
         → items (eqb (opened s .head 34) q) s (payloadStart s + getD (startsOf (opened s .head)) 3 0 + (c .sn - 1) * 16) 8 8 (oneIf (c .sn) (segments (opened s .head)) * 2) ≡ trigBytes q c (opened s)
     trig-written h =
         sym
         (ap (λ (t : List (List ℕ)). allBytes q 8 (flatten (only (c .sn) t))) trig-is
-        ∙ trig-items (opened s .head 34) q 8 s (payloadStart s + getD (startsOf (opened s .head)) 3 0) (opened s .head 48) (fw .order) (al .order) b (part-room 3 (omega arith))
+        ∙ trig-items (opened s .head 34) q 8 s (payloadStart s + getD (startsOf (opened s .head)) 3 0) (opened s .head 48) (fw .order) (al .order) b (part-within s b e 3 (omega arith))
         (segments (opened s .head)) 2 (omega arith) (omega arith) (trig-size h) c (al .taken .segment))
 
     pub ris-whole : opened s .head 52 / 8 * 8 ≡ opened s .head 52
@@ -171,7 +165,7 @@ module _ (s : List ℕ) (b : Bytes s) (e : refusal s ≡ 0) where
     ris-written =
         sym
         (ap (allBytes q 8) ris-is
-        ∙ numbers-items (opened s .head 34) q 8 (opened s .head 52 / 8) (payloadStart s + getD (startsOf (opened s .head)) 4 0) s (fw .order) (al .order) b (omega (arith, part-room 4 (omega arith), ris-whole)))
+        ∙ numbers-items (opened s .head 34) q 8 (opened s .head 52 / 8) (payloadStart s + getD (startsOf (opened s .head)) 4 0) s (fw .order) (al .order) b (omega (arith, part-within s b e 4 (omega arith), ris-whole)))
       where
         ris-is : opened s .ris ≡ numbers (opened s .head 34) 8 (opened s .head 52 / 8) (piece s (payloadStart s + getD (startsOf (opened s .head)) 4 0) (opened s .head 52 / 8 * 8))
         ris-is = unfold opened decode waveOf in

@@ -17,6 +17,7 @@ use Rattle.rules.proofs.Template.{total-template}
 use Rattle.rules.proofs.Thin.{count-pos}
 use Rattle.rules.proofs.Keeps.{count-le}
 use Rattle.rules.proofs.Accepts.{place-le}
+use Rattle.rules.proofs.Samples.{part-within}
 use Rattle.rules.proofs.Opened.{sized-opened, payload-there, length-payload, shape-opened, fits-opened, good-opened}
 use Rattle.rules.proofs.Demands.{Allowed, allowed}
 use Rattle.block.specs.declared.Opened.{Opened}
@@ -27,7 +28,7 @@ use Rattle.copies.proofs.Head.{length-header}
 use Rattle.heads.specs.Heads.{changesBy}
 use Rattle.cuts.specs.declared.Plan.{Plan}
 use Rattle.cuts.specs.Plans.{planIn, changesIn, Ready, trigBytes, risBytes, arrayOf, arrayBytes}
-use Rattle.cuts.proofs.Cutting.{recordOf, only-some, only-none, total-le, rows-some, no-bytes, part-room, head-is, text-is, array-written, sample-room, trig-room, trig-written, ris-whole, ris-written, trig-length, one-length, two-length, head-changed, long-is, cut-written, small}
+use Rattle.cuts.proofs.Cutting.{recordOf, only-some, only-none, total-le, rows-some, no-bytes, head-is, text-is, array-written, sample-room, trig-room, trig-written, ris-whole, ris-written, trig-length, one-length, two-length, head-changed, long-is, cut-written, small}
 
 -- three parts written one after the other from the start
 pub three-at : (l : List ℕ) (j k : ℕ) (xs ys zs : List ℕ) → length xs ≡ j → length xs + length ys ≡ k → k ≤ length l → splice (splice (splice l 0 xs) j ys) k zs ≡ splice l 0 (xs ++ ys ++ zs)
@@ -165,9 +166,9 @@ module _ (s : List ℕ) (b : Bytes s) (o : Opened) (c : Setup) (q : ℕ) (p : Pl
 
   pub table-needs : TableNeeds s o p
   table-needs = subst₂ (λ (x : Opened) (y : Plan). TableNeeds s x y) (sym record-is) (sym plan-is) (record {
-    ris-room = unfold startsOf in part-room s b (r .block) 4 (omega arith);
+    ris-room = unfold startsOf in part-within s b (r .block) 4 (omega arith);
     ris-eights = ris-whole s b (r .block) q c al;
-    trig-start = unfold startsOf in omega (arith, part-room s b (r .block) 3 (omega arith));
+    trig-start = unfold startsOf in omega (arith, part-within s b (r .block) 3 (omega arith));
     trig-rooms = λ h. unfold startsOf in trig-room s b (r .block) q c al (λ z. h (only-none (opened s .head 48) _ z));
     trig-size = λ h. sixteen (oneIf (c .sn) (segments (opened s .head))) ∙ sym (only-some (opened s .head 48) (oneIf (c .sn) (segments (opened s .head)) * 16) (λ z. h (only-none (opened s .head 48) _ z)));
   })
@@ -203,7 +204,7 @@ module _ (s : List ℕ) (b : Bytes s) (o : Opened) (c : Setup) (q : ℕ) (p : Pl
   pub front-needs : FrontNeeds s o c p
   front-needs = subst₂ (λ (x : Opened) (y : Plan). FrontNeeds s x c y) (sym record-is) (sym plan-is) (record {
     head-room = omega (arith, sized-opened s b (r .block) .least, payload-there s b (r .block));
-    text-room = unfold startsOf in part-room s b (r .block) 1 (omega arith);
+    text-room = unfold startsOf in part-within s b (r .block) 1 (omega arith);
     order = fits-opened s b (r .block) .order;
     sizes = small s b (r .block) q c al;
     places = (place-le q (length (payload s)) c (opened s) (shape-opened s b (r .block)) (al .taken) (fits-opened s b (r .block)) (good-opened s b (r .block)) (al .order) (al .sparse) (c .fp) (al .taken .point), al .sparse);

@@ -7,10 +7,11 @@ use native.Mathlib.Omega.{arith}
 use lib.Dec.{eqb}
 use lib.ListN.{length, take, drop, getD, length-map, length-replicate, List·getD-map}
 use lib.Seq.{drop-drop, getD-take, getD-drop}
-use Rattle.rules.specs.Numbers.{Bytes, number, bytes, numbers, allBytes, rows, pieces, low}
+use Rattle.rules.specs.Numbers.{Bytes, number, bytes, numbers, allBytes}
 use Rattle.rules.specs.Wave.{table}
 use Rattle.rules.specs.Cut.{Setup, step, only, kept, count, oneIf}
 use Rattle.rules.proofs.Numbers.{below-take, below-drop}
+use Rattle.rules.proofs.Samples.{row-is, number-at}
 use Rattle.rules.proofs.Slices.{part-take}
 use Rattle.rules.proofs.Thin.{count-kept, count-reach, getD-kept}
 use Rattle.rules.proofs.Rows.{Rows, only-rows}
@@ -55,23 +56,6 @@ module _ (q w : ℕ) where
   flat-gather (r ∷ rs) =
       allBytes-append r (flatten rs) ∙ ap (λ (x : List ℕ). allBytes q w r ++ x) (flat-gather rs) ∙ sym (gather-cons (λ i. allBytes q w (getD (r ∷ rs) i [])) (length rs))
 
-pub getD-rows : (g k n : ℕ) (xs : List ℕ) → n < g → getD (rows g k xs) n [] ≡ part xs (n * k) k
-unfolding pieces
-getD-rows zero k n xs h = absurd (omega arith)
-getD-rows (suc g) k zero xs h = ap (λ (j : ℕ). part xs j k) (sym (zero-mul k))
-getD-rows (suc g) k (suc n) xs h =
-    let e : k + n * k ≡ suc n * k = omega (arith, suc-mul n k) in
-    getD-rows g k n (drop k xs) (omega arith) ∙ ap (take k) (drop-drop (n * k) k xs ∙ ap (λ (j : ℕ). drop j xs) e)
-
-number-nil : (o : ℕ) → number o [] ≡ 0
-unfolding number low
-number-nil zero = refl
-number-nil (suc o) = refl
-
-pub getD-numbers : (o w n j : ℕ) (bs : List ℕ) → j < n → getD (numbers o w n bs) j 0 ≡ number o (part bs (j * w) w)
-getD-numbers o w n j bs h =
-    ap (λ (d : ℕ). getD (numbers o w n bs) j d) (sym (number-nil o)) ∙ List·getD-map (number o) (rows n w bs) j [] ∙ ap (number o) (getD-rows n w j bs h)
-
 -- ---- numbers that stand in the block from `from`
 
 module _ (o q w : ℕ) (b : List ℕ) (from len : ℕ) (ho : o ≤ 1) (hq : q ≤ 1) (hb : Bytes b) (room : from + len ≤ length b) where
@@ -79,7 +63,7 @@ module _ (o q w : ℕ) (b : List ℕ) (from len : ℕ) (ho : o ≤ 1) (hq : q �
   number-item n j e h =
       let r : j * w + w ≤ len = omega (arith, rows-room j n w h) in
       let p : part (part b from len) (j * w) w ≡ part b (from + j * w) w = part-part b from len (j * w) w r in
-      ap (bytes q w) (getD-numbers o w n j (part b from len) h ∙ ap (number o) p)
+      ap (bytes q w) (number-at o w n j (part b from len) h ∙ ap (number o) p)
       ∙ number-turned o q w (part b (from + j * w) w) ho hq (below-take 256 w (drop (from + j * w) b) (below-drop 256 (from + j * w) b hb)) (length-part b (from + j * w) w (omega arith))
 
   rows-count : (g k : ℕ) (t : List (List ℕ)) → Rows g k t → length t ≡ g
@@ -108,7 +92,7 @@ module _ (o q w : ℕ) (b : List ℕ) (from len : ℕ) (ho : o ≤ 1) (hq : q �
 
     -- row r of the table
     row-at : (r : ℕ) → r < g → getD (table o w g (part b from len)) r [] ≡ part (numbers o w (g * k) (part b from len)) (r * k) k
-    row-at r h = ap (λ (u : List (List ℕ)). getD u r []) (table-is o w g k (part b from len) pw pg t-below t-length) ∙ getD-rows g k r (numbers o w (g * k) (part b from len)) h
+    row-at r h = ap (λ (u : List (List ℕ)). getD u r []) (table-is o w g k (part b from len) pw pg t-below t-length) ∙ row-is g k r (numbers o w (g * k) (part b from len)) h
 
     -- number j of row r
     in-row : (r j : ℕ) → r < g → j < k → bytes q w (getD (part (numbers o w (g * k) (part b from len)) (r * k) k) j 0) ≡ inOrder (eqb o q) (part b (from + (r * k + j) * w) w)
