@@ -8,8 +8,9 @@ use native.Mathlib.Omega.{arith}
 use lib.ListN.{length, take, drop, getD}
 use lib.Seq.{drop-drop, take-add}
 use Rattle.rules.specs.Numbers.{splice}
-use Rattle.copies.specs.Copies.{inOrder, gather, part, items, rowsOf}
-use Rattle.copies.proofs.Laws.{then, length-gather, gather-cong, gather-add, part-window, length-turned}
+use Rattle.copies.specs.Copies.{inOrder, gather, part, items}
+use Rattle.numbers.proofs.Reading.{part-window}
+use Rattle.copies.proofs.Laws.{then, length-gather, gather-cong, gather-add, length-turned}
 
 -- the items before item n, and item n, end before the last does
 pub rows-room : (n g k : ℕ) → n < g → n * k + k ≤ g * k
@@ -20,9 +21,6 @@ length-items same l from step w n h = length-gather (λ k. inOrder same (part l 
 
 pub length-run : (same : Bool) (l : List ℕ) (from w n : ℕ) → from + n * w ≤ length l → length (items same l from w w n) ≡ n * w
 length-run same l from w n h = length-items same l from w w n (λ k b. omega (arith, rows-room k n w b))
-
-pub length-rowsOf : (same : Bool) (l : List ℕ) (from row g step w n : ℕ) → ((i k : ℕ) → i < g → k < n → from + i * row + k * step + w ≤ length l) → length (rowsOf same l from row g step w n) ≡ g * (n * w)
-length-rowsOf same l from row g step w n h = length-gather (λ i. items same l (from + i * row) step w n) (n * w) g (λ i b. length-items same l (from + i * row) step w n (λ k c. h i k b c))
 
 -- n items, and m more behind them
 pub items-add : (same : Bool) (l : List ℕ) (from step w n m : ℕ) → items same l from step w (n + m) ≡ items same l from step w n ++ items same l (from + n * step) step w m

@@ -7,7 +7,7 @@ use native.Mathlib.Nat.{add-zero, add-suc, add-assoc, suc-mul, zero-mul}
 use native.Mathlib.Numerals.{add-one}
 use native.Mathlib.Omega.{arith}
 use lib.ListN.{length, take, drop, getD, length-append, length-drop, length-reverse, take-append-drop}
-use lib.Seq.{drop-cons, take-at, take-append-le, drop-append-le, take-append-add, drop-append-add, drop-drop, length-take-le, getD-take, getD-drop, paste, take-length}
+use lib.Seq.{take-at, take-append-le, drop-append-le, take-append-add, drop-append-add, drop-drop, length-take-le, getD-take, getD-drop, paste, take-length}
 use Rattle.rules.specs.Numbers.{splice}
 use Rattle.copies.specs.Copies.{inOrder, gather, part}
 
@@ -92,28 +92,6 @@ pub gather-step : (f : ℕ → List ℕ) (w i : ℕ) → ((k : ℕ) → k < i �
 gather-step f w i h l at b = rw (add-one i) (then l at (i * w) (gather f i) (f i) (length-gather f w i h) b)
 
 -- ---- parts
-
--- element by element: at a numeral w it computes to `getD l at 0 ∷ getD l (at + 1) 0 ∷ ..`
-abbrev pub windowFrom : List ℕ → ℕ → ℕ → ℕ → List ℕ
-windowFrom l at k zero = []
-windowFrom l at k (suc w) = getD l (at + k) 0 ∷ windowFrom l at (k + 1) w
-
-abbrev pub window : List ℕ → ℕ → ℕ → List ℕ
-window l at zero = []
-window l at (suc w) = getD l at 0 ∷ windowFrom l at 1 w
-
-part-from : (l : List ℕ) (at k w : ℕ) → at + k + w ≤ length l → part l (at + k) w ≡ windowFrom l at k w
-part-from l at k zero h = refl
-part-from l at k (suc w) h =
-    let b : at + k < length l = omega arith in
-    let e : suc (at + k) ≡ at + (k + 1) = omega arith in
-    rw (drop-cons l (at + k) 0 b, e, part-from l at (k + 1) w (omega arith))
-
-pub part-window : (l : List ℕ) (at w : ℕ) → at + w ≤ length l → part l at w ≡ window l at w
-part-window l at zero h = refl
-part-window l at (suc w) h =
-    let b : at < length l = omega arith in
-    rw (drop-cons l at 0 b, ← add-one at, part-from l at 1 w (omega arith))
 
 pub length-part : (l : List ℕ) (p w : ℕ) → p + w ≤ length l → length (part l p w) ≡ w
 length-part l p w h = let b : w ≤ length (drop p l) = simp length-drop (omega arith) in length-take-le w (drop p l) b

@@ -59,7 +59,6 @@ pub record ArrayNeeds (s : List ℕ) (o : Opened) (p : Plan) (j : ℕ) : Type 0 
 pub record TableNeeds (s : List ℕ) (o : Opened) (p : Plan) : Type 0 where
   pub ris-room : o .start + getD (o .layout .starts) 4 0 + getD (o .layout .lengths) 4 0 ≤ length s
   pub ris-eights : getD (o .layout .lengths) 4 0 / 8 * 8 ≡ getD (o .layout .lengths) 4 0
-  pub trig-start : o .start + getD (o .layout .starts) 3 0 ≤ length s
   pub trig-rooms : (p .trig ≡ 0 → ⊥) → o .start + getD (o .layout .starts) 3 0 + p .skip * 16 + p .rows * 2 * 8 ≤ length s
   pub trig-size : (p .trig ≡ 0 → ⊥) → p .rows * 2 * 8 ≡ p .trig
 
@@ -168,7 +167,6 @@ module _ (s : List ℕ) (b : Bytes s) (o : Opened) (c : Setup) (q : ℕ) (p : Pl
   table-needs = subst₂ (λ (x : Opened) (y : Plan). TableNeeds s x y) (sym record-is) (sym plan-is) (record {
     ris-room = unfold startsOf in part-within s b (r .block) 4 (omega arith);
     ris-eights = ris-whole s b (r .block) q c al;
-    trig-start = unfold startsOf in omega (arith, part-within s b (r .block) 3 (omega arith));
     trig-rooms = λ h. unfold startsOf in trig-room s b (r .block) q c al (λ z. h (only-none (opened s .head 48) _ z));
     trig-size = λ h. sixteen (oneIf (c .sn) (segments (opened s .head))) ∙ sym (only-some (opened s .head 48) (oneIf (c .sn) (segments (opened s .head)) * 16) (λ z. h (only-none (opened s .head 48) _ z)));
   })

@@ -1,4 +1,4 @@
-// Writes the block of a cut by its plan, part by part, each byte once.
+// Writes the block of a cut by its plan, part by part: each byte once, and the changed fields over the descriptor's copy.
 use crate::Plan;
 use crate::Setup;
 use crate::plans;
