@@ -145,7 +145,8 @@ stays p h = ap (λ (t : Bool). cond t (movedTo (p .k + 1) p) p) (le-ltb (p .k) (
 module _ (s : List ℕ) (a n : ℕ) where
   -- not refused
   module _ (e : walkRefusal s a n ≡ 0) where
-    begins : placeOf s a n ≡ acceptedPlace s a n 0
+    -- it starts before the first point
+    pub begins : placeOf s a n ≡ acceptedPlace s a n 0
     unfolding placeOf
     begins = ap (λ (m : ℕ). startBy m (acceptedPlace s a n 0)) e
 

@@ -1,0 +1,4 @@
+pub mod Slices
+pub mod Filling
+pub mod Cutting
+pub mod Determined

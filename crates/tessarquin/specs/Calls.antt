@@ -1,0 +1,73 @@
+-- The calls for a host in C: the number that each returns, and what it leaves in each slice that it was lent. Definitions only.
+use Prim.Native.Nat.{ℕ, zero, suc}
+use mathlib.Core.Bool.{Bool, cond}
+use mathlib.Core.List.{List, [], _∷_, map}
+use lib.ListN.{length}
+use lib.Dec.{leb}
+use lib.Ieee.{binary64, toBits}
+use Rattle.rules.specs.Numbers.{allBytes, upFrom, splice}
+use Rattle.rules.specs.Wave.{orderOf, segments, points}
+use Rattle.rules.specs.Rules.{refusal, opened}
+use Rattle.rules.specs.Points.{value, time, pointRefusal, walkRefusal}
+use Rattle.rules.specs.Cut.{Setup, orElse, count, cutBytes, cutRefusal}
+use Rattle.block.specs.Opened.{arraysOf}
+
+-- 13, after every other check: where bytes do not fit the room that they were lent
+abbrev pub orRoom : ℕ → List ℕ → ℕ → ℕ
+orRoom n bs room = orElse n (cond (leb (length bs) room) 0 13)
+
+-- a slice afterwards: the bytes at its start and behind them what it held; all that it held where the call is refused
+abbrev pub leftBy : ℕ → List ℕ → List ℕ → List ℕ
+leftBy zero bs slice = splice slice 0 bs
+leftBy (suc n) bs slice = slice
+
+-- ---- open: g, M, arrays, COMM_ORDER, COMM_TYPE
+
+abbrev pub openBytes : List ℕ → List ℕ
+openBytes s = let h = opened s .head in allBytes 0 8 (segments h ∷ points h ∷ arraysOf h ∷ orderOf h ∷ h 32 ∷ [])
+
+unfoldable pub openNumber : List ℕ → ℕ → ℕ
+openNumber s room = orRoom (refusal s) (openBytes s) room
+
+unfoldable pub openLeft : List ℕ → List ℕ → List ℕ
+openLeft s answer = leftBy (openNumber s (length answer)) (openBytes s) answer
+
+-- ---- point k of segment n of array a: the value's bits and the time's
+
+abbrev pub pointBytes : List ℕ → ℕ → ℕ → ℕ → List ℕ
+pointBytes s a n k = allBytes 0 8 (toBits binary64 (value (opened s) a n k) ∷ toBits binary64 (time (opened s) n k) ∷ [])
+
+unfoldable pub pointNumber : List ℕ → ℕ → ℕ → ℕ → ℕ → ℕ
+pointNumber s a n k room = orRoom (pointRefusal s a n k) (pointBytes s a n k) room
+
+unfoldable pub pointLeft : List ℕ → ℕ → ℕ → ℕ → List ℕ → List ℕ
+pointLeft s a n k answer = leftBy (pointNumber s a n k (length answer)) (pointBytes s a n k) answer
+
+-- ---- a fill of segment n of array a: the M values' bits; refused before 13 as a walk over the segment is
+
+abbrev pub fillBytes : List ℕ → ℕ → ℕ → List ℕ
+fillBytes s a n = allBytes 0 8 (map (λ k. toBits binary64 (value (opened s) a n k)) (upFrom 0 (points (opened s .head))))
+
+unfoldable pub fillNumber : List ℕ → ℕ → ℕ → ℕ → ℕ
+fillNumber s a n room = orRoom (walkRefusal s a n) (fillBytes s a n) room
+
+unfoldable pub fillLeft : List ℕ → ℕ → ℕ → List ℕ → List ℕ
+fillLeft s a n answer = leftBy (fillNumber s a n (length answer)) (fillBytes s a n) answer
+
+-- ---- a cut in the order q: the block to one slice, c and the block's length to the other
+
+abbrev pub setup : ℕ → ℕ → ℕ → ℕ → Setup
+setup sp np fp sn = record { sp = sp; np = np; fp = fp; sn = sn }
+
+abbrev pub cutAnswer : List ℕ → Setup → ℕ → List ℕ
+cutAnswer s c q = allBytes 0 8 (count c (points (opened s .head)) ∷ length (cutBytes q c s) ∷ [])
+
+-- 13 of the one slice is in the cut's own number
+unfoldable pub cutNumber : List ℕ → Setup → ℕ → ℕ → ℕ → ℕ
+cutNumber s c q room second = orRoom (cutRefusal q c s room) (cutAnswer s c q) second
+
+unfoldable pub cutLeft : List ℕ → Setup → ℕ → List ℕ → ℕ → List ℕ
+cutLeft s c q out second = leftBy (cutNumber s c q (length out) second) (cutBytes q c s) out
+
+unfoldable pub cutAnswerLeft : List ℕ → Setup → ℕ → ℕ → List ℕ → List ℕ
+cutAnswerLeft s c q room answer = leftBy (cutNumber s c q room (length answer)) (cutAnswer s c q) answer

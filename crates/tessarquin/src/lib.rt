@@ -1,0 +1,147 @@
+// The four calls for a host in C: numbers and byte slices only. Each returns 0 or the number of its refusal, and writes its answer as numbers of
+// eight bytes, the high byte first.
+use block::Opened;
+use cuts::Setup;
+use points::Place;
+ghost use mathlib.Core.Path.{_≡_};
+ghost use mathlib.Core.List.{[], _∷_};
+ghost use Prim.Native.Nat.{_+_, _*_, _≤_};
+ghost use lib.ListN.{length};
+ghost use Rattle.rules.specs.Numbers.{allBytes, splice};
+ghost use Rattle.rules.specs.Points.{walkRefusal};
+ghost use Rattle.rules.specs.Cut.{cutRefusal};
+ghost use Rattle.points.specs.Walks.{placeOf};
+ghost use Rattle.cuts.specs.Cuts.{setupAs};
+ghost use Rattle.tessarquin.specs.Calls.{setup, openNumber, openLeft, pointNumber, pointLeft, fillBytes, fillNumber, fillLeft, cutNumber, cutLeft, cutAnswerLeft};
+
+// Opens a block: g, M, arrays, COMM_ORDER and COMM_TYPE.
+#[no_mangle]
+pub extern "C" fn tessarquin_open(block: &[u8], answer: &mut [u8]) -> u32
+    ensures { λ r. ⌜ r ≡ openNumber (now (block .entry)) (length (now (answer .entry))) ⌝ }
+    ensures { λ _. ⌜ now (answer .exit) ≡ openLeft (now (block .entry)) (now (answer .entry)) ⌝ }
+{
+    let o = block::open(block);
+    if o.refusal != 0 {
+        return o.refusal;
+    }
+    if answer.len() < 40 {
+        return 13;
+    }
+    put_opened(o, answer);
+    0
+}
+
+// A point of a segment of an array: the bits of its value and of its time.
+#[no_mangle]
+pub extern "C" fn tessarquin_point(
+    block: &[u8],
+    array: u32,
+    segment: u32,
+    point: u32,
+    answer: &mut [u8],
+) -> u32
+    ensures { λ r. ⌜ r ≡ pointNumber (now (block .entry)) array segment point (length (now (answer .entry))) ⌝ }
+    ensures { λ _. ⌜ now (answer .exit) ≡ pointLeft (now (block .entry)) array segment point (now (answer .entry)) ⌝ }
+{
+    let p = points::point(block, array, segment, point);
+    if p.refusal != 0 {
+        return p.refusal;
+    }
+    if answer.len() < 16 {
+        return 13;
+    }
+    put_pair(scale::bits(p.value), scale::bits(p.time), answer, 0);
+    0
+}
+
+// All M points of a segment of an array: the bits of their values.
+#[no_mangle]
+pub extern "C" fn tessarquin_fill(block: &[u8], array: u32, segment: u32, answer: &mut [u8]) -> u32
+    ensures { λ r. ⌜ r ≡ fillNumber (now (block .entry)) array segment (length (now (answer .entry))) ⌝ }
+    ensures { λ _. ⌜ now (answer .exit) ≡ fillLeft (now (block .entry)) array segment (now (answer .entry)) ⌝ }
+{
+    let place = points::place_of(block, array, segment);
+    if place.refusal != 0 {
+        return place.refusal;
+    }
+    if answer.len() < place.points as usize * 8 {
+        return 13;
+    }
+    put_values(block, array, segment, place, answer);
+    0
+}
+
+// Cuts a block by SP, NP, FP and SN into the order asked for: the block to out, c and its length to the answer.
+#[no_mangle]
+pub extern "C" fn tessarquin_cut(
+    block: &[u8],
+    sp: u32,
+    np: u32,
+    fp: u32,
+    sn: u32,
+    order: u32,
+    out: &mut [u8],
+    answer: &mut [u8],
+) -> u32
+    ensures { λ r. ⌜ r ≡ cutNumber (now (block .entry)) (setup sp np fp sn) order (length (now (out .entry))) (length (now (answer .entry))) ⌝ }
+    ensures { λ _. ⌜ now (out .exit) ≡ cutLeft (now (block .entry)) (setup sp np fp sn) order (now (out .entry)) (length (now (answer .entry))) ⌝ }
+    ensures { λ _. ⌜ now (answer .exit) ≡ cutAnswerLeft (now (block .entry)) (setup sp np fp sn) order (length (now (out .entry))) (now (answer .entry)) ⌝ }
+{
+    let setup = Setup { sp, np, fp, sn };
+    if answer.len() < 16 {
+        return without_room(block, setup, order);
+    }
+    let w = cuts::cut(block, setup, order, out);
+    if w.refusal != 0 {
+        return w.refusal;
+    }
+    put_pair(w.count as u64, w.length as u64, answer, 0);
+    0
+}
+
+// The five numbers of an opened block, at the start of out.
+fn put_opened(o: Opened, out: &mut [u8])
+    requires { ⌜ 40 ≤ length (now out) ⌝ }
+    ensures { λ _. ⌜ now (out .exit) ≡ splice (now (out .entry)) 0 (allBytes 0 8 (o .segments ∷ o .points ∷ o .arrays ∷ o .order ∷ o .kind ∷ [])) ⌝ }
+{
+    put_pair(o.segments as u64, o.points as u64, out, 0);
+    put_pair(o.arrays as u64, o.order as u64, out, 16);
+    numbers::put_u64(o.kind as u64, 0, out, 32);
+}
+
+// The number of a cut that has nowhere to go: never 0.
+fn without_room(block: &[u8], setup: Setup, order: u32) -> u32
+    ensures { λ r. ⌜ r ≡ cutRefusal order (setupAs setup) (now (block .entry)) 0 ⌝ }
+{
+    let mut nothing = [0u8; 0];
+    let w = cuts::cut(block, setup, order, &mut nothing);
+    w.refusal
+}
+
+// The bits of the values of a walk's segment, at the start of out.
+fn put_values(block: &[u8], array: u32, segment: u32, place: Place, out: &mut [u8])
+    requires { ⌜ place ≡ placeOf (now block) array segment ⌝ }
+    requires { ⌜ walkRefusal (now block) array segment ≡ 0 ⌝ }
+    requires { ⌜ place .points * 8 ≤ length (now out) ⌝ }
+    ensures { λ _. ⌜ now (out .exit) ≡ splice (now (out .entry)) 0 (fillBytes (now (block .entry)) array segment) ⌝ }
+{
+    let from = place.samples;
+    let count = place.points as usize;
+    let gain = numbers::single(place.gain);
+    let offset = numbers::single(place.offset);
+    if place.kind == 0 {
+        fills::put_bytes(block, from, count, gain, offset, out);
+        return;
+    }
+    fills::put_words(block, from, count, place.order, gain, offset, out);
+}
+
+// Two numbers of eight bytes from `at`, the high byte first.
+fn put_pair(a: u64, b: u64, out: &mut [u8], at: usize)
+    requires { ⌜ at + 16 ≤ length (now out) ⌝ }
+    ensures { λ _. ⌜ now (out .exit) ≡ splice (now (out .entry)) at (allBytes 0 8 (a ∷ b ∷ [])) ⌝ }
+{
+    let next = at + 8;
+    numbers::put_u64(a, 0, out, at);
+    numbers::put_u64(b, 0, out, next);
+}
