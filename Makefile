@@ -1,10 +1,60 @@
-# make test proves every crate from nothing, tries every wrong answer, and runs what there is to run.
-# Its last line is that of `rt ci`: 'N passed, 0 failed'.
-.PHONY: test fmt
+# make list FILE=..   the numbers and the points of a trace file, by the proved listing program
+# make test           proves every crate from nothing, tries every wrong answer, runs every program and every test
+# make archive        target/staticlib/libtessarquin.a, for a program in C; make host builds the one in host/
+# make soak N=..      compares the calls with the independent reader on N cases; make bench counts instructions
+# make fmt            puts the Rattle files into their layout
+SHELL := /bin/bash
+.SHELLFLAGS := -eu -o pipefail -c
+MAKEFLAGS += --no-print-directory
+.PHONY: list test archive host checked soak bench fmt tools
 
-test:
+# The compiled code is for x86-64: elsewhere it is linked by a cross compiler and run by an emulator.
+ifeq ($(shell uname -m),x86_64)
+CC := gcc
+CXX := g++
+RUN :=
+PACKAGES := gcc g++
+else
+CC := x86_64-linux-gnu-gcc
+CXX := x86_64-linux-gnu-g++
+RUN := qemu-x86_64
+PACKAGES := gcc-x86-64-linux-gnu g++-x86-64-linux-gnu qemu-user
+endif
+CFLAGS := -std=gnu11 -O2 -Wall -Wextra -Werror -static -Iinclude
+ARCHIVE := target/staticlib/libtessarquin.a
+FILE ?= crates/listing/stdin
+SEED ?= 1
+N ?= 100000
+
+list: tools
+	@rt check listing >target/listing.log || { cat target/listing.log; exit 1; }
+	@$(RUN) target/bin/listing <'$(FILE)'
+
+# The last line is that of rt ci. What it proved is not proved again for the archive.
+test: tools
 	@rt fmt --check
-	@rt ci
+	@log=$$(mktemp); trap 'rm -f "$$log"' EXIT; rt ci | tee "$$log"; $(MAKE) checked; tail -n 1 "$$log"
+
+archive:
+	@rt staticlib tessarquin >target/archive.log || { cat target/archive.log; exit 1; }
+
+host: tools archive
+	@mkdir -p target/host
+	@$(CC) $(CFLAGS) host/trace.c $(ARCHIVE) -o target/host/trace
+
+# The program that the README prints, the host program, the calls at the end of a page, and the independent reader.
+checked: host
+	@awk '/^```c$$/ { on = 1; next } /^```$$/ { on = 0 } on' README.md >target/host/first.c
+	@$(CC) $(CFLAGS) target/host/first.c $(ARCHIVE) -o target/host/first
+	@[ "$$($(RUN) target/host/first <crates/listing/stdin)" = '-1.75 V at -1 s' ]
+	@$(CXX) -std=c++17 -Wall -Wextra -Werror -Iinclude -fsyntax-only -x c++ target/host/first.c
+	@$(CC) $(CFLAGS) host/calls.c $(ARCHIVE) -o target/host/calls
+	@$(RUN) target/host/calls
+	@host/test '$(RUN)' target/host/trace crates/listing/stdin
 
 fmt:
 	@rt fmt
+
+tools:
+	@mkdir -p target
+	@for tool in $(CC) $(CXX) $(RUN); do command -v $$tool || exit 1; done >/dev/null || { apt-get update -q && apt-get install -qy $(PACKAGES); } >target/packages.log 2>&1 || { cat target/packages.log; exit 1; }

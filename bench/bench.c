@@ -1,0 +1,210 @@
+/*
+ * Work to be counted: bench lib|c CASE POINTS TIMES does it so many times; bench time lib|c CASE POINTS prints the
+ * nanoseconds of one; bench stack prints how much stack each call takes.
+ */
+#include "same.h"
+#include "tessarquin.h"
+
+#include <stdio.h>
+#include <stdlib.h>
+#include <time.h>
+#include <ucontext.h>
+
+static uint8_t *block, *out;
+static size_t length, samples, points;
+static uint8_t answer[40];
+static const float gain = 0.5f, offset = 0.25f;
+
+/* ---- blocks: one segment of words, or bytes, or many segments with trigger times */
+
+static int order;
+
+static void put(size_t at, size_t width, uint64_t n)
+{
+    for (size_t i = 0; i < width; i++)
+        block[11 + at + (order ? i : width - 1 - i)] = (uint8_t)(n >> (8 * i));
+}
+
+static void put_float(size_t at, float x)
+{
+    uint32_t bits;
+    memcpy(&bits, &x, sizeof bits);
+    put(at, 4, bits);
+}
+
+static void make(int asked_order, size_t width, size_t segments, size_t in_each, size_t trigger)
+{
+    order = asked_order;
+    points = segments * in_each;
+    size_t trig = trigger * 16 * segments;
+    size_t payload = 346 + trig + points * width;
+    length = 11 + payload;
+    samples = 11 + 346 + trig;
+    block = calloc(length + 1, 1);
+    out = malloc(length + 8 * points + 64);
+    if (!block || !out)
+        exit(2);
+    snprintf((char *)block, 12, "#9%09zu", payload);
+    memcpy(block + 11, "WAVEDESC", 9);
+    memcpy(block + 27, "LECROY_2_3", 11);
+    put(32, 2, width - 1);
+    block[11 + 34] = (uint8_t)order;
+    put(36, 4, 346);
+    put(48, 4, trig);
+    put(60, 4, points * width);
+    put(116, 4, points);
+    put(144, 4, segments);
+    put_float(156, gain);
+    put_float(160, offset);
+    put_float(176, 1e-9f);
+    for (size_t i = 0; i < points * width; i++)
+        block[samples + i] = (uint8_t)(37 * i + i / 256);
+}
+
+/* ---- the cases */
+
+static uint32_t opened(void) { return tessarquin_open(block, length, answer, sizeof answer); }
+static uint32_t one_point(void) { return tessarquin_point(block, length, 1, 1, (uint32_t)(points - 1), answer, sizeof answer); }
+static uint32_t filled(void) { return tessarquin_fill(block, length, 1, 1, out, 8 * points); }
+
+static uint32_t cut_by(uint32_t sp, uint32_t to)
+{
+    return tessarquin_cut(block, length, sp, 0, 0, 0, to, out, length, answer, sizeof answer);
+}
+
+static uint32_t copied(void) { return cut_by(1, 1); }
+static uint32_t turned(void) { return cut_by(1, 0); }
+static uint32_t by_4(void) { return cut_by(4, 1); }
+static uint32_t by_4_turned(void) { return cut_by(4, 0); }
+static uint32_t by_100(void) { return cut_by(100, 1); }
+
+static uint32_t c_bytes(void) { same_fill_bytes(block + samples, points, gain, offset, out); return 0; }
+static uint32_t c_words_low(void) { same_fill_words_low(block + samples, points, gain, offset, out); return 0; }
+static uint32_t c_words_high(void) { same_fill_words_high(block + samples, points, gain, offset, out); return 0; }
+static uint32_t c_copied(void) { same_copy(block, length, out); return 0; }
+static uint32_t c_turned(void) { same_turn(block + samples, points, 1, out); return 0; }
+static uint32_t c_by_4(void) { same_keep(block + samples, points, 4, out); return 0; }
+static uint32_t c_by_4_turned(void) { same_turn(block + samples, points, 4, out); return 0; }
+static uint32_t c_by_100(void) { same_keep(block + samples, points, 100, out); return 0; }
+
+static const struct work {
+    const char *name;
+    int order;
+    size_t width, trigger;
+    uint32_t (*lib)(void), (*c)(void);
+} works[] = {
+    {"open", 1, 2, 0, opened, NULL},
+    {"open-high", 0, 2, 0, opened, NULL},
+    {"open-trigger", 1, 2, 1, opened, NULL},
+    {"open-trigger-high", 0, 2, 1, opened, NULL},
+    {"point", 1, 2, 0, one_point, NULL},
+    {"fill-word-low", 1, 2, 0, filled, c_words_low},
+    {"fill-word-high", 0, 2, 0, filled, c_words_high},
+    {"fill-byte", 1, 1, 0, filled, c_bytes},
+    {"cut-copy-word", 1, 2, 0, copied, c_copied},
+    {"cut-copy-byte", 1, 1, 0, copied, c_copied},
+    {"cut-turn", 1, 2, 0, turned, c_turned},
+    {"cut-by-4", 1, 2, 0, by_4, c_by_4},
+    {"cut-by-4-turn", 1, 2, 0, by_4_turned, c_by_4_turned},
+    {"cut-by-100", 1, 2, 0, by_100, c_by_100},
+};
+
+static const struct work *find(const char *name)
+{
+    for (size_t i = 0; i < sizeof works / sizeof *works; i++)
+        if (strcmp(works[i].name, name) == 0)
+            return &works[i];
+    fprintf(stderr, "bench: no case %s\n", name);
+    exit(2);
+}
+
+static uint32_t (*prepare(const char *who, const char *name, size_t n))(void)
+{
+    const struct work *w = find(name);
+    make(w->order, w->width, w->trigger ? n : 1, w->trigger ? 1 : n, w->trigger);
+    uint32_t (*work)(void) = strcmp(who, "lib") == 0 ? w->lib : w->c;
+    if (!work || opened() != 0) {
+        fprintf(stderr, "bench: %s has no such work\n", name);
+        exit(2);
+    }
+    return work;
+}
+
+/* ---- time */
+
+static double seconds(void)
+{
+    struct timespec t;
+    clock_gettime(CLOCK_MONOTONIC, &t);
+    return (double)t.tv_sec + 1e-9 * (double)t.tv_nsec;
+}
+
+/* The best of some runs, each long enough for the clock. */
+static double nanoseconds(uint32_t (*work)(void))
+{
+    double best = 1e9;
+    for (int run = 0; run < 7; run++) {
+        size_t times = 0;
+        double start = seconds(), took = 0;
+        for (; took < 0.02; took = seconds() - start, times++)
+            work();
+        if (took / (double)times < best)
+            best = took / (double)times;
+    }
+    return 1e9 * best;
+}
+
+/* ---- stack: a call on a stack of its own, painted before, so that what it touched shows */
+
+enum { STACK = 1 << 16, PAINT = 0xC3 };
+static uint8_t stack[STACK];
+static ucontext_t caller, callee;
+static uint32_t (*on_stack)(void);
+
+static void enter(void) { on_stack(); }
+static uint32_t nothing(void) { return 0; }
+
+static size_t touched(uint32_t (*work)(void))
+{
+    memset(stack, PAINT, sizeof stack);
+    on_stack = work;
+    getcontext(&callee);
+    callee.uc_stack.ss_sp = stack;
+    callee.uc_stack.ss_size = sizeof stack;
+    callee.uc_link = &caller;
+    makecontext(&callee, enter, 0);
+    swapcontext(&caller, &callee);
+    size_t i = 0;
+    while (i < sizeof stack && stack[i] == PAINT)
+        i++;
+    return sizeof stack - i;
+}
+
+static void print_stacks(void)
+{
+    make(0, 2, 10, 10, 1);
+    size_t none = touched(nothing);
+    printf("tessarquin_open %zu\n", touched(opened) - none);
+    points = 10;
+    printf("tessarquin_point %zu\n", touched(one_point) - none);
+    printf("tessarquin_fill %zu\n", touched(filled) - none);
+    printf("tessarquin_cut %zu\n", touched(by_4) - none);
+}
+
+int main(int count, char **words)
+{
+    if (count == 2 && strcmp(words[1], "stack") == 0) {
+        print_stacks();
+    } else if (count == 5 && strcmp(words[1], "time") == 0) {
+        printf("%.0f\n", nanoseconds(prepare(words[2], words[3], strtoul(words[4], NULL, 10))));
+    } else if (count == 5) {
+        uint32_t (*work)(void) = prepare(words[1], words[2], strtoul(words[3], NULL, 10));
+        for (unsigned long i = strtoul(words[4], NULL, 10); i > 0; i--)
+            if (work() != 0)
+                return 1;
+    } else {
+        fputs("bench lib|c CASE POINTS TIMES | bench time lib|c CASE POINTS | bench stack\n", stderr);
+        return 2;
+    }
+    return 0;
+}

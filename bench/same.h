@@ -1,0 +1,18 @@
+/* The same work in C, on samples whose place, order and calibration are known: nothing is checked. */
+#include <stddef.h>
+#include <stdint.h>
+
+/* The bits of the values of n samples, eight bytes each, the high byte first. */
+void same_fill_bytes(const uint8_t *samples, size_t n, float gain, float offset, uint8_t *out);
+void same_fill_words_low(const uint8_t *samples, size_t n, float gain, float offset, uint8_t *out);
+void same_fill_words_high(const uint8_t *samples, size_t n, float gain, float offset, uint8_t *out);
+
+/* The values themselves. */
+void same_values_bytes(const uint8_t *samples, size_t n, float gain, float offset, double *out);
+void same_values_words_low(const uint8_t *samples, size_t n, float gain, float offset, double *out);
+void same_values_words_high(const uint8_t *samples, size_t n, float gain, float offset, double *out);
+
+/* Every step-th of n words, as it is or with its two bytes changed over; and n bytes as they are. */
+void same_keep(const uint8_t *samples, size_t n, size_t step, uint8_t *out);
+void same_turn(const uint8_t *samples, size_t n, size_t step, uint8_t *out);
+void same_copy(const uint8_t *samples, size_t n, uint8_t *out);
