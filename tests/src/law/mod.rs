@@ -1,0 +1,13 @@
+//! The scope document in plain Rust: what each of the four calls answers, byte for byte.
+//!
+//! Written from the document alone, and nothing is shared with the proved code. It favours being
+//! read over being quick: lists of kept points and segments, a new block built piece by piece.
+//! build.rs copies this folder for each wrong version and changes one line in the copy, so the
+//! files find one another by `super::`.
+
+pub mod calls;
+pub mod cut;
+pub mod descriptor;
+pub mod numbers;
+pub mod points;
+pub mod rules;
