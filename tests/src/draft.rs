@@ -7,6 +7,8 @@ use crate::law::numbers::{read_signed, store, Order};
 #[derive(Clone)]
 pub struct Draft {
     pub order: Order,
+    /// Bytes of a sample.
+    pub width: usize,
     /// The descriptor's 346 bytes.
     pub head: Vec<u8>,
     pub user_text: Vec<u8>,
@@ -25,10 +27,12 @@ pub struct Draft {
 }
 
 impl Draft {
-    /// The two names, WAVE_DESCRIPTOR and the order; zeros in every other field, and no parts.
+    /// A byte block with the two names, WAVE_DESCRIPTOR and the order; zeros in every other field,
+    /// and no parts.
     pub fn plain(order: Order) -> Draft {
         let mut draft = Draft {
             order,
+            width: 1,
             head: vec![0; SIZE],
             user_text: vec![],
             trigtime: vec![],
@@ -53,6 +57,12 @@ impl Draft {
         for reserved in [RES_DESC1, RES_ARRAY1, RES_ARRAY2, RES_ARRAY3] {
             self.set_length(reserved, 0);
         }
+    }
+
+    /// Sets COMM_TYPE for samples of one byte or two.
+    pub fn set_width(&mut self, width: usize) {
+        self.width = width;
+        self.set_word(COMM_TYPE, width as i64 - 1);
     }
 
     pub fn set_text(&mut self, at: usize, text: &[u8]) {

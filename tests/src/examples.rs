@@ -13,7 +13,7 @@ const BOTH: [Order; 2] = [Order::HiFirst, Order::LoFirst];
 /// A block of one array of samples, byte or word, with no tables.
 fn draft(order: Order, samples: &[i64], width: usize) -> Draft {
     let mut draft = Draft::plain(order);
-    draft.set_word(COMM_TYPE, width as i64 - 1);
+    draft.set_width(width);
     draft.array_1 = vec![0; width * samples.len()];
     for (place, sample) in draft.array_1.chunks_mut(width).zip(samples) {
         store(place, order, *sample as u64);

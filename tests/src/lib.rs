@@ -1,9 +1,18 @@
 //! An independent implementation of the scope document, and what compares the library's C calls
 //! with it: a generator of blocks and questions, the comparison, and a runner at the end of a pipe.
 
+pub mod cases;
+pub mod compare;
 pub mod draft;
+pub mod edges;
+pub mod floats;
 pub mod law;
+pub mod pairs;
+pub mod questions;
 pub mod random;
+pub mod request;
+pub mod runner;
+pub mod shape;
 
 #[cfg(test)]
 mod examples;

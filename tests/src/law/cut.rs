@@ -33,8 +33,8 @@ pub fn cut(opened: &Opened, setup: &Setup, order: Order) -> Cut {
     let mut payload = head(opened, setup, order, points.len(), segments.len());
     payload.extend(opened.user_text);
     if !opened.trigtime.is_empty() {
-        for n in &segments {
-            let at = 16 * (*n as usize - 1);
+        for segment in &segments {
+            let at = 16 * (*segment as usize - 1);
             append(&mut payload, &opened.trigtime[at..at + 16], 8, opened.order, order);
         }
     }

@@ -2,7 +2,7 @@
 //!
 //! Written from the document alone, and nothing is shared with the proved code. It favours being
 //! read over being quick: lists of kept points and segments, a new block built piece by piece.
-//! build.rs copies this folder for each wrong version and changes one line in the copy, so the
+//! slips/build.rs copies this folder for each wrong version and changes one line in the copy, so the
 //! files find one another by `super::`.
 
 pub mod calls;

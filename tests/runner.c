@@ -1,0 +1,160 @@
+/* Takes calls from standard input and makes them in the library; answers on standard output with
+ * the number and with all slices as the call left them. src/runner.rs is the other end.
+ *
+ * A request is nine numbers of four bytes, low byte first: the kind of call, five numbers for it,
+ * and the lengths of block, out and answer; then the bytes of these three slices. A reply is two
+ * numbers, what the call returned and which slices have lost the known bytes before them (bit 0
+ * block, 1 out, 2 answer); then the bytes of the slices again.
+ *
+ * Every slice ends where memory that cannot be touched begins, so a call that reads or writes
+ * behind a slice ends this program by a signal. */
+
+#define _GNU_SOURCE
+#include <stdint.h>
+#include <stdio.h>
+#include <stdlib.h>
+#include <string.h>
+#include <sys/mman.h>
+
+#include "tessarquin.h"
+
+enum kind { PROBE, OPEN, POINT, FILL, CUT };
+enum { BLOCK, OUT, ANSWER, SLICES };
+
+/* Memory that cannot be touched comes in pages; no machine has larger ones than this. */
+#define PAGE ((size_t)65536)
+
+/* How many known bytes stand before a slice, and what they are. */
+#define BEFORE 256
+#define KNOWN 0xA5
+
+/* A lent slice: its bytes end at `end`. */
+struct slice {
+    uint8_t *map;
+    size_t mapped;
+    uint8_t *end;
+    size_t room;
+    size_t len;
+};
+
+static void fail(const char *what)
+{
+    perror(what);
+    exit(2);
+}
+
+static uint8_t *start(const struct slice *slice)
+{
+    return slice->end - slice->len;
+}
+
+/* Maps at least `need` bytes, with an untouchable page behind them. */
+static void map(struct slice *slice, size_t need)
+{
+    if (slice->map && munmap(slice->map, slice->mapped) != 0)
+        fail("munmap");
+    slice->room = (2 * need / PAGE + 1) * PAGE;
+    slice->mapped = slice->room + 2 * PAGE;
+    slice->map = mmap(NULL, slice->mapped, PROT_READ | PROT_WRITE, MAP_PRIVATE | MAP_ANONYMOUS, -1, 0);
+    if (slice->map == MAP_FAILED)
+        fail("mmap");
+    uintptr_t behind = ((uintptr_t)slice->map + PAGE - 1) / PAGE * PAGE + slice->room;
+    slice->end = slice->map + (behind - (uintptr_t)slice->map);
+    if (mprotect(slice->end, PAGE, PROT_NONE) != 0)
+        fail("mprotect");
+}
+
+/* Makes the slice `len` bytes long, with known bytes before it. */
+static void lend(struct slice *slice, size_t len)
+{
+    if (slice->room < len + BEFORE)
+        map(slice, len + BEFORE);
+    slice->len = len;
+    memset(start(slice) - BEFORE, KNOWN, BEFORE);
+}
+
+/* Whether the bytes before the slice are no longer the known ones. */
+static int spoiled(const struct slice *slice)
+{
+    for (const uint8_t *byte = start(slice) - BEFORE; byte < start(slice); byte++)
+        if (*byte != KNOWN)
+            return 1;
+    return 0;
+}
+
+/* Reads exactly so many bytes; 0 where the input ends before the first of them. */
+static int take(void *bytes, size_t len)
+{
+    size_t got = fread(bytes, 1, len, stdin);
+    if (got != len && (got != 0 || ferror(stdin)))
+        fail("input ends within a request");
+    return got == len;
+}
+
+static uint32_t number(const uint8_t *bytes)
+{
+    return bytes[0] | (uint32_t)bytes[1] << 8 | (uint32_t)bytes[2] << 16 | (uint32_t)bytes[3] << 24;
+}
+
+static void put_number(uint8_t *bytes, uint32_t number)
+{
+    for (int i = 0; i < 4; i++)
+        bytes[i] = (uint8_t)(number >> 8 * i);
+}
+
+/* Tries the slices themselves: changes a byte before one (n[1] is 0), or touches the byte behind. */
+static uint32_t probe(const struct slice *slice, int behind)
+{
+    volatile uint8_t *byte = behind ? slice->end : start(slice) - 1;
+    *byte ^= 0xFF;
+    return 0;
+}
+
+static uint32_t call(enum kind kind, const uint32_t n[5], const struct slice lent[SLICES])
+{
+    const uint8_t *block = start(&lent[BLOCK]);
+    uint8_t *out = start(&lent[OUT]), *answer = start(&lent[ANSWER]);
+    size_t block_len = lent[BLOCK].len, out_len = lent[OUT].len, answer_len = lent[ANSWER].len;
+
+    switch (kind) {
+    case PROBE:
+        return probe(&lent[n[0] % SLICES], n[1] != 0);
+    case OPEN:
+        return tessarquin_open(block, block_len, answer, answer_len);
+    case POINT:
+        return tessarquin_point(block, block_len, n[0], n[1], n[2], answer, answer_len);
+    case FILL:
+        return tessarquin_fill(block, block_len, n[0], n[1], answer, answer_len);
+    case CUT:
+        return tessarquin_cut(block, block_len, n[0], n[1], n[2], n[3], n[4], out, out_len, answer, answer_len);
+    }
+    fprintf(stderr, "no such call: %d\n", kind);
+    exit(2);
+}
+
+int main(void)
+{
+    static struct slice lent[SLICES];
+    uint8_t request[9 * 4], reply[2 * 4];
+
+    while (take(request, sizeof request)) {
+        uint32_t n[5], lost = 0;
+        for (int i = 0; i < 5; i++)
+            n[i] = number(request + 4 + 4 * i);
+        for (int i = 0; i < SLICES; i++) {
+            lend(&lent[i], number(request + 24 + 4 * i));
+            if (lent[i].len != 0 && !take(start(&lent[i]), lent[i].len))
+                fail("input ends within a request");
+        }
+        put_number(reply, call((enum kind)number(request), n, lent));
+        for (int i = 0; i < SLICES; i++)
+            lost |= (uint32_t)spoiled(&lent[i]) << i;
+        put_number(reply + 4, lost);
+        fwrite(reply, 1, sizeof reply, stdout);
+        for (int i = 0; i < SLICES; i++)
+            fwrite(start(&lent[i]), 1, lent[i].len, stdout);
+        if (fflush(stdout) != 0)
+            fail("output");
+    }
+    return 0;
+}

@@ -1,0 +1,84 @@
+//! Makes the wrong versions of the independent implementation: for each entry of wrong.txt a copy
+//! of ../src/law with one line changed, and one file that names them all.
+
+use std::fmt::Write;
+use std::path::{Path, PathBuf};
+use std::{env, fs};
+
+const LAW: &str = "../src/law";
+const LIST: &str = "wrong.txt";
+
+/// One entry of the list; a line left out has no wrong one.
+struct Entry {
+    title: String,
+    file: String,
+    right: String,
+    wrong: String,
+}
+
+fn main() {
+    println!("cargo:rerun-if-changed={LAW}");
+    println!("cargo:rerun-if-changed={LIST}");
+    let out = PathBuf::from(env::var("OUT_DIR").expect("cargo sets OUT_DIR"));
+    let files = law_files();
+    let list = fs::read_to_string(LIST).expect("wrong.txt is beside build.rs");
+    let (mut modules, mut names) = (String::new(), String::new());
+    for (number, entry) in entries(&list).iter().enumerate() {
+        let folder = out.join(format!("wrong_{number}"));
+        write_copy(&folder, &files, entry);
+        let module = folder.join("mod.rs");
+        let title = &entry.title;
+        writeln!(modules, "#[path = {module:?}]\nmod wrong_{number};").expect("a string grows");
+        writeln!(names, "({title:?}, calls_of!(wrong_{number}::calls)),").expect("a string grows");
+    }
+    let text = format!("{modules}\npub const WRONG: &[(&str, Calls)] = &[\n{names}];\n");
+    fs::write(out.join("wrong.rs"), text).expect("OUT_DIR takes files");
+}
+
+/// The files of the implementation: name and text.
+fn law_files() -> Vec<(String, String)> {
+    let folder = fs::read_dir(LAW).expect("../src/law is a folder");
+    let read = |path: &Path| fs::read_to_string(path).expect("a source file is text");
+    folder
+        .map(|entry| entry.expect("a folder lists its files"))
+        .map(|entry| (entry.file_name().to_string_lossy().into_owned(), read(&entry.path())))
+        .collect()
+}
+
+/// Entries are parted by blank lines; lines that start with `#` are remarks.
+fn entries(list: &str) -> Vec<Entry> {
+    let lines: Vec<&str> = list.lines().filter(|line| !line.starts_with('#')).collect();
+    let groups = lines.split(|line| line.is_empty()).filter(|group| !group.is_empty());
+    groups
+        .map(|group| {
+            let title = group[0].to_string();
+            let part = |sign: &str| group.iter().skip(2).find_map(|line| line.strip_prefix(sign));
+            assert!(
+                (3..=4).contains(&group.len()),
+                "{LIST}: \"{title}\" has too few or many lines"
+            );
+            let right =
+                part("- ").unwrap_or_else(|| panic!("{LIST}: \"{title}\" has no right line"));
+            let wrong = part("+ ").unwrap_or("").to_string();
+            Entry { title, file: group[1].to_string(), right: right.to_string(), wrong }
+        })
+        .collect()
+}
+
+/// Writes the copy of one entry.
+fn write_copy(folder: &Path, files: &[(String, String)], entry: &Entry) {
+    fs::create_dir_all(folder).expect("OUT_DIR takes folders");
+    assert!(files.iter().any(|(name, _)| *name == entry.file), "{LIST}: no file {}", entry.file);
+    for (name, text) in files {
+        let text = if *name == entry.file { changed(text, entry) } else { text.clone() };
+        fs::write(folder.join(name), text).expect("OUT_DIR takes files");
+    }
+}
+
+/// The text with the entry's line changed.
+fn changed(text: &str, entry: &Entry) -> String {
+    let found = text.lines().filter(|line| line.trim() == entry.right).count();
+    assert!(found == 1, "{LIST}: \"{}\": its right line is found {found} times", entry.title);
+    let change = |line| if str::trim(line) == entry.right { &entry.wrong } else { line };
+    text.lines().map(change).collect::<Vec<_>>().join("\n")
+}

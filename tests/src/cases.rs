@@ -1,0 +1,121 @@
+//! A case: one block and what is asked of it, fixed by a seed and a case number.
+
+use crate::compare::{Checker, Difference};
+use crate::edges::{self, Edge, EDGES};
+use crate::pairs;
+use crate::questions::{request, Extent};
+use crate::random::Random;
+use crate::request::Call;
+use crate::shape::Shape;
+
+/// One case in so many has a long block.
+const LARGE_EVERY: u64 = 400;
+
+/// Runs a case and answers what kind it was.
+pub fn run(checker: &mut Checker, seed: u64, case: u64) -> (String, Result<(), Difference>) {
+    let random = &mut Random::new(seed, case);
+    if case % LARGE_EVERY == LARGE_EVERY - 1 {
+        let (edge, draft) = edges::large(random, case / LARGE_EVERY);
+        return (format!("long block: {}", edge.name), ask_little(checker, &draft.bytes(), random));
+    }
+    match case % 8 {
+        0 | 1 => {
+            let block = right_block(random);
+            ("right block".into(), ask_much(checker, &block, random))
+        }
+        turn @ 2..=4 => {
+            // The edges take turns, so that a few hundred cases have them all.
+            let edge = &EDGES[(case / 8 * 3 + turn - 2) as usize % EDGES.len()];
+            let block = edges::one(edge, random).bytes();
+            (format!("edge: {}", edge.name), ask_any(checker, &block, random))
+        }
+        5 => {
+            let (a, b) = two_faults(random);
+            let block = edges::all(&[a, b], random).bytes();
+            (format!("two faults: {}; {}", a.name, b.name), ask_any(checker, &block, random))
+        }
+        6 => {
+            let mut block = right_block(random);
+            damage(&mut block, random);
+            ("damage".into(), ask_any(checker, &block, random))
+        }
+        _ => {
+            let block = right_block(random);
+            ("cut of a cut".into(), pairs::check(checker, &block, random))
+        }
+    }
+}
+
+fn right_block(random: &mut Random) -> Vec<u8> {
+    Shape::any(random).draft(random).bytes()
+}
+
+/// Two edges that two different rules refuse.
+fn two_faults(random: &mut Random) -> (&'static Edge, &'static Edge) {
+    loop {
+        let (a, b) = (random.below(EDGES.len()), random.below(EDGES.len()));
+        let (a, b) = (&EDGES[a], &EDGES[b]);
+        if a.number != 0 && b.number != 0 && a.number != b.number {
+            return (a, b);
+        }
+    }
+}
+
+/// Random damage: bytes changed (most often in the header and descriptor), cut off, added, moved.
+fn damage(block: &mut Vec<u8>, random: &mut Random) {
+    for _ in 0..random.range(1, 3) {
+        let length = block.len();
+        if length == 0 {
+            return;
+        }
+        let near = random.below(length.min(357));
+        let anywhere = random.below(length);
+        match random.below(8) {
+            0..=2 => block[near] ^= 1 << random.below(8),
+            3 => block[near] = random.pick(&[0, 1, 0x7F, 0x80, 0xFF]),
+            4 => block[anywhere] = random.next() as u8,
+            5 => block.truncate(anywhere),
+            6 => {
+                let more = 1 + random.below(20);
+                block.extend(random.bytes(more));
+            }
+            _ => drop(block.remove(anywhere)),
+        }
+    }
+}
+
+fn ask_any(checker: &mut Checker, block: &[u8], random: &mut Random) -> Result<(), Difference> {
+    if crate::law::rules::open(block).is_ok() {
+        return ask_much(checker, block, random);
+    }
+    ask_little(checker, block, random)
+}
+
+/// Each call once.
+fn ask_little(checker: &mut Checker, block: &[u8], random: &mut Random) -> Result<(), Difference> {
+    let extent = Extent::of(block);
+    let calls = [Call::Open, extent.point(random), extent.fill(random), extent.cut(random)];
+    ask(checker, block, random, &calls)
+}
+
+fn ask_much(checker: &mut Checker, block: &[u8], random: &mut Random) -> Result<(), Difference> {
+    let extent = Extent::of(block);
+    let mut calls = vec![Call::Open];
+    calls.extend((0..6).map(|_| extent.point(random)));
+    calls.extend((0..2).map(|_| extent.fill(random)));
+    calls.extend((0..2).map(|_| extent.cut(random)));
+    calls.extend((0..2).map(|_| extent.right_cut(random)));
+    ask(checker, block, random, &calls)
+}
+
+fn ask(
+    checker: &mut Checker,
+    block: &[u8],
+    random: &mut Random,
+    calls: &[Call],
+) -> Result<(), Difference> {
+    for call in calls {
+        checker.ask(&request(random, *call, block))?;
+    }
+    Ok(())
+}

@@ -1,0 +1,103 @@
+//! The comparison: every reply against that of the independent implementation, byte for byte.
+
+use crate::request::{Core, Reply, Request, LAW};
+
+/// How many refusal numbers there are; 0 is counted with them.
+const NUMBERS: usize = 14;
+
+/// What has been compared so far.
+#[derive(Default)]
+pub struct Tally {
+    pub calls: u64,
+    /// How often each number came, 0 to 13.
+    pub seen: [u64; NUMBERS],
+}
+
+impl Tally {
+    /// The refusal numbers that never came.
+    pub fn unseen(&self) -> Vec<usize> {
+        (1..NUMBERS).filter(|number| self.seen[*number] == 0).collect()
+    }
+
+    /// The counts in words.
+    pub fn numbers(&self) -> String {
+        let counts = self.seen.iter().enumerate().map(|(number, n)| format!("{number}: {n}"));
+        counts.collect::<Vec<_>>().join(", ")
+    }
+}
+
+/// A difference, in words.
+pub struct Difference(pub String);
+
+/// Asks a core, and compares each reply.
+pub struct Checker<'a> {
+    core: &'a mut dyn Core,
+    pub tally: Tally,
+    /// Print each call, and the block of a difference.
+    pub verbose: bool,
+}
+
+impl<'a> Checker<'a> {
+    pub fn new(core: &'a mut dyn Core) -> Checker<'a> {
+        Checker { core, tally: Tally::default(), verbose: false }
+    }
+
+    /// The core's reply, which is also the one expected.
+    pub fn ask(&mut self, request: &Request) -> Result<Reply, Difference> {
+        let expected = LAW.reply(request);
+        if self.verbose {
+            println!("{}: {}", describe(request), expected.number);
+        }
+        let came = self.core.ask(request).map_err(|why| {
+            self.difference(request, &[format!("expected {}, and {why}", expected.number)])
+        })?;
+        self.tally.calls += 1;
+        self.tally.seen[expected.number as usize] += 1;
+        if came != expected {
+            return Err(self.difference(request, &differences(&expected, &came)));
+        }
+        Ok(came)
+    }
+
+    fn difference(&self, request: &Request, lines: &[String]) -> Difference {
+        let mut text = describe(request);
+        lines.iter().for_each(|line| text += &format!("\n    {line}"));
+        if self.verbose {
+            text += &format!("\n    block: {}", hex(request.block));
+        }
+        Difference(text)
+    }
+}
+
+fn describe(request: &Request) -> String {
+    let Request { call, block, out, answer } = request;
+    let (block, out, answer) = (block.len(), out.len(), answer.len());
+    format!("{call}; block of {block}, out of {out}, answer of {answer}")
+}
+
+fn differences(expected: &Reply, came: &Reply) -> Vec<String> {
+    let mut lines = vec![];
+    if expected.number != came.number {
+        lines.push(format!("number: expected {}, came {}", expected.number, came.number));
+    }
+    for slice in &came.spoiled {
+        lines.push(format!("{slice}: the bytes before it have changed"));
+    }
+    lines.extend(slice_difference("block", &expected.block, &came.block));
+    lines.extend(slice_difference("out", &expected.out, &came.out));
+    lines.extend(slice_difference("answer", &expected.answer, &came.answer));
+    lines
+}
+
+/// Where two contents of a slice first differ, with the bytes from there on.
+pub fn slice_difference(name: &str, expected: &[u8], came: &[u8]) -> Option<String> {
+    let count = expected.iter().zip(came).filter(|(a, b)| a != b).count();
+    let first = expected.iter().zip(came).position(|(a, b)| a != b)?;
+    let part = |bytes: &[u8]| hex(&bytes[first..bytes.len().min(first + 16)]);
+    let (expected, came) = (part(expected), part(came));
+    Some(format!("{name}: {count} bytes differ, from {first}: expected {expected}, came {came}"))
+}
+
+fn hex(bytes: &[u8]) -> String {
+    bytes.iter().map(|byte| format!("{byte:02X}")).collect::<Vec<_>>().join(" ")
+}

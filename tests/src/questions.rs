@@ -1,0 +1,185 @@
+//! What is asked of a block: calls with numbers at and beyond their limits, slices with just
+//! enough room and one byte less.
+
+use crate::law::rules::{open, LAST_PLACE};
+use crate::random::Random;
+use crate::request::{Call, Request, LAW};
+
+/// The limits of a block's questions.
+pub struct Extent {
+    pub segments: u32,
+    pub points: u32,
+    pub arrays: u32,
+    pub sparsing: u32,
+}
+
+impl Extent {
+    /// Those of an accepted block; small ones for a refused block, where all questions are alike.
+    pub fn of(block: &[u8]) -> Extent {
+        match open(block) {
+            Ok(opened) => Extent {
+                segments: opened.segments as u32,
+                points: opened.points as u32,
+                arrays: opened.arrays.len() as u32,
+                sparsing: opened.sparsing as u32,
+            },
+            Err(_) => Extent { segments: 2, points: 4, arrays: 1, sparsing: 1 },
+        }
+    }
+
+    pub fn point(&self, random: &mut Random) -> Call {
+        Call::Point {
+            array: self.array(random),
+            segment: self.segment(random),
+            point: self.index(random),
+        }
+    }
+
+    pub fn fill(&self, random: &mut Random) -> Call {
+        Call::Fill { array: self.array(random), segment: self.segment(random) }
+    }
+
+    pub fn cut(&self, random: &mut Random) -> Call {
+        let order = match random.below(12) {
+            0 => random.pick(&[2, 3, 256, 65_536, 1 << 31, u32::MAX]),
+            _ => random.below(2) as u32,
+        };
+        let sp = match random.below(12) {
+            0 => self.sparse_limit() + 1,
+            1 => self.wrapping_sp(random),
+            _ => self.right_sp(random),
+        };
+        let fp = self.index(random);
+        let sn = match random.below(12) {
+            0 => self.beyond(random, self.segments),
+            _ => self.right_sn(random),
+        };
+        Call::Cut { sp, np: self.np(random, sp, fp), fp, sn, order }
+    }
+
+    /// A cut that only a lack of room can refuse.
+    pub fn right_cut(&self, random: &mut Random) -> Call {
+        let sp = self.right_sp(random);
+        let half = self.points / 2;
+        let near = random.range(0, i64::from(half)) as u32;
+        let fp = random.pick(&[0, 0, near, near, self.points - 1]);
+        let np = self.np(random, sp, fp);
+        Call::Cut { sp, np, fp, sn: self.right_sn(random), order: random.below(2) as u32 }
+    }
+
+    fn array(&self, random: &mut Random) -> u32 {
+        match random.below(10) {
+            0 => random.pick(&[0, 2, 2, 3, 257, 65_537, 1 << 31 | 1, u32::MAX]),
+            _ => 1 + random.below(self.arrays as usize) as u32,
+        }
+    }
+
+    fn segment(&self, random: &mut Random) -> u32 {
+        let any = 1 + random.below(self.segments as usize) as u32;
+        match random.below(10) {
+            0 if random.once_in(2) => 0,
+            0 => self.beyond(random, self.segments),
+            1 => 1,
+            2 => self.segments,
+            _ => any,
+        }
+    }
+
+    /// A point number or FP.
+    fn index(&self, random: &mut Random) -> u32 {
+        let any = random.below(self.points as usize) as u32;
+        match random.below(10) {
+            0 => self.beyond(random, self.points - 1),
+            1 | 2 => 0,
+            3 | 4 => self.points - 1,
+            _ => any,
+        }
+    }
+
+    /// A number above the last that is allowed: the next one, or one that a narrower or a signed
+    /// number would take for an allowed one.
+    fn beyond(&self, random: &mut Random, last: u32) -> u32 {
+        let next = last + 1;
+        random.pick(&[next, next, next + 1, 1 << 16 | last, 1 << 31 | last, u32::MAX]).max(next)
+    }
+
+    fn right_sp(&self, random: &mut Random) -> u32 {
+        let limit = self.sparse_limit();
+        let few = 2 + random.below(4) as u32;
+        let any = 1 + random.below(self.points as usize + 1) as u32;
+        random.pick(&[0, 1, 1, 2, few, few, any, any, self.points, limit]).min(limit)
+    }
+
+    /// The highest SP that 12 lets pass.
+    fn sparse_limit(&self) -> u32 {
+        LAST_PLACE as u32 / self.sparsing
+    }
+
+    /// An SP whose product with S passes 12 when it is kept in 32 bits.
+    fn wrapping_sp(&self, random: &mut Random) -> u32 {
+        let wrapping = (1u64 << 32).div_ceil(u64::from(self.sparsing));
+        let wrapping = u32::try_from(wrapping).unwrap_or(u32::MAX);
+        random.pick(&[wrapping, 1 << 28, 1 << 31, u32::MAX])
+    }
+
+    fn np(&self, random: &mut Random, sp: u32, fp: u32) -> u32 {
+        let c = self.points.saturating_sub(fp).div_ceil(sp.max(1)).max(1);
+        let few = 1 + random.below(c as usize) as u32;
+        random.pick(&[0, 0, 0, 1, few, few, c - 1, c, c + 1, 1 << 16, 1 << 31, u32::MAX])
+    }
+
+    fn right_sn(&self, random: &mut Random) -> u32 {
+        let any = 1 + random.below(self.segments as usize) as u32;
+        random.pick(&[0, 0, 0, 1, any, any, self.segments])
+    }
+}
+
+/// A request with room that is often just enough, sometimes one byte short.
+pub fn request<'a>(random: &mut Random, call: Call, block: &'a [u8]) -> Request<'a> {
+    let (out_need, answer_need) = need(call, block);
+    let out_room = if out_need == 0 { 0 } else { room(random, out_need) };
+    let answer_room = room(random, answer_need);
+    with_room(random, call, block, out_room, answer_room)
+}
+
+/// A request with exactly the room that the answer takes.
+pub fn exact_request<'a>(random: &mut Random, call: Call, block: &'a [u8]) -> Request<'a> {
+    let (out_need, answer_need) = need(call, block);
+    with_room(random, call, block, out_need, answer_need)
+}
+
+/// A request whose outputs hold random bytes.
+pub fn with_room<'a>(
+    random: &mut Random,
+    call: Call,
+    block: &'a [u8],
+    out_room: usize,
+    answer_room: usize,
+) -> Request<'a> {
+    Request { call, block, out: random.bytes(out_room), answer: random.bytes(answer_room) }
+}
+
+/// The bytes of `out` and `answer` that an answer takes; for a refused call, of some answer.
+fn need(call: Call, block: &[u8]) -> (usize, usize) {
+    match call {
+        Call::Open => (0, 40),
+        Call::Point { .. } => (0, 16),
+        Call::Fill { .. } => (0, 8 * Extent::of(block).points as usize),
+        Call::Cut { .. } => {
+            let (out, answer) = (vec![0; block.len()], vec![0; 16]);
+            let reply = LAW.reply(&Request { call, block, out, answer });
+            let length = u64::from_be_bytes(reply.answer[8..].try_into().expect("eight bytes"));
+            (if reply.number == 0 { length as usize } else { 400 }, 16)
+        }
+    }
+}
+
+fn room(random: &mut Random, need: usize) -> usize {
+    match random.below(12) {
+        0 | 1 => need - 1,
+        2 => random.below(need),
+        3 => random.pick(&[0, 1, 8, need / 2, need.saturating_sub(8)]),
+        4..=6 => need + 1 + random.below(30),
+        _ => need,
+    }
+}

@@ -1,0 +1,157 @@
+//! The library at the other end of a pipe: starts the runner and speaks its protocol, which
+//! runner.c describes.
+
+use std::io::{Read, Write};
+use std::os::unix::process::ExitStatusExt;
+use std::process::{Child, ChildStdin, ChildStdout, Command, Stdio};
+use std::sync::atomic::{AtomicU64, Ordering};
+use std::sync::{Arc, Mutex, Weak};
+use std::thread;
+use std::time::{Duration, Instant};
+
+use crate::request::{Call, Core, Reply, Request};
+
+const SLICES: [&str; 3] = ["block", "out", "answer"];
+
+/// A call that takes longer is taken for one that never ends.
+const LONGEST_CALL: Duration = Duration::from_secs(120);
+
+pub struct Runner {
+    child: Arc<Mutex<Child>>,
+    input: ChildStdin,
+    output: ChildStdout,
+    /// Odd while a call is under way.
+    steps: Arc<AtomicU64>,
+}
+
+impl Runner {
+    /// Starts the runner by its command line.
+    pub fn start(command: &[String]) -> Result<Runner, String> {
+        let (program, arguments) = command.split_first().ok_or("no runner is named")?;
+        let mut child = Command::new(program)
+            .args(arguments)
+            .stdin(Stdio::piped())
+            .stdout(Stdio::piped())
+            .spawn()
+            .map_err(|error| format!("{program} does not start: {error}"))?;
+        let input = child.stdin.take().ok_or("the runner has no input")?;
+        let output = child.stdout.take().ok_or("the runner has no output")?;
+        let child = Arc::new(Mutex::new(child));
+        let steps = Arc::new(AtomicU64::new(0));
+        watch(Arc::downgrade(&child), steps.clone());
+        Ok(Runner { child, input, output, steps })
+    }
+
+    /// Tries whether the runner finds what it is there to find: each slice with a byte changed
+    /// before it, and each with the byte behind it touched, which must end the runner.
+    pub fn probe(command: &[String]) -> Result<(), String> {
+        let mut runner = Runner::start(command)?;
+        for (slice, name) in SLICES.iter().enumerate() {
+            let reply = runner.exchange(&probe_numbers(slice, 0), [&[1], &[2], &[3]])?;
+            if reply.spoiled != [*name] {
+                return Err(format!("the runner does not see a change before {name}"));
+            }
+            let mut victim = Runner::start(command)?;
+            match victim.exchange(&probe_numbers(slice, 1), [&[1], &[2], &[3]]) {
+                Err(why) if why.contains("signal") => (),
+                Err(why) => return Err(why),
+                Ok(_) => return Err(format!("the byte behind {name} can be touched")),
+            }
+        }
+        Ok(())
+    }
+
+    fn exchange(&mut self, numbers: &[u32; 6], slices: [&[u8]; 3]) -> Result<Reply, String> {
+        self.steps.fetch_add(1, Ordering::SeqCst);
+        let reply = self.write(numbers, slices).and_then(|()| self.read(slices));
+        self.steps.fetch_add(1, Ordering::SeqCst);
+        reply.map_err(|error| self.end(error))
+    }
+
+    fn write(&mut self, numbers: &[u32; 6], slices: [&[u8]; 3]) -> std::io::Result<()> {
+        let lengths = slices.map(|slice| slice.len() as u32);
+        let head = numbers.iter().chain(&lengths).flat_map(|number| number.to_le_bytes());
+        let mut bytes: Vec<u8> = head.collect();
+        slices.iter().for_each(|slice| bytes.extend(*slice));
+        self.input.write_all(&bytes)
+    }
+
+    fn read(&mut self, slices: [&[u8]; 3]) -> std::io::Result<Reply> {
+        let mut bytes = vec![0; 8 + slices.iter().map(|slice| slice.len()).sum::<usize>()];
+        self.output.read_exact(&mut bytes)?;
+        let mut rest = &bytes[..];
+        let mut next = |length: usize| {
+            let (part, behind) = rest.split_at(length);
+            rest = behind;
+            part.to_vec()
+        };
+        let mut number = || {
+            let bytes = next(4).try_into().expect("four bytes");
+            u32::from_le_bytes(bytes)
+        };
+        let (number, lost) = (number(), number());
+        let [block, out, answer] = slices.map(|slice| next(slice.len()));
+        let spoiled = SLICES.into_iter().enumerate().filter(|(bit, _)| lost >> bit & 1 == 1);
+        let spoiled = spoiled.map(|(_, name)| name).collect();
+        Ok(Reply { number, block, out, answer, spoiled })
+    }
+
+    /// Why there is no reply: how the runner ended.
+    fn end(&mut self, error: std::io::Error) -> String {
+        let mut child = self.child.lock().expect("no thread panics with the runner");
+        match child.wait() {
+            Ok(status) => match status.signal() {
+                Some(9) => format!("no reply came within {} s", LONGEST_CALL.as_secs()),
+                Some(signal) => format!("the runner was ended by signal {signal}"),
+                None => format!("the runner ended with {status} ({error})"),
+            },
+            Err(why) => format!("the runner is lost: {why} ({error})"),
+        }
+    }
+}
+
+impl Core for Runner {
+    fn ask(&mut self, request: &Request) -> Result<Reply, String> {
+        let numbers = match request.call {
+            Call::Open => [1, 0, 0, 0, 0, 0],
+            Call::Point { array, segment, point } => [2, array, segment, point, 0, 0],
+            Call::Fill { array, segment } => [3, array, segment, 0, 0, 0],
+            Call::Cut { sp, np, fp, sn, order } => [4, sp, np, fp, sn, order],
+        };
+        self.exchange(&numbers, [request.block, &request.out, &request.answer])
+    }
+}
+
+impl Drop for Runner {
+    /// Ends the runner where it has not ended by itself.
+    fn drop(&mut self) {
+        if let Ok(mut child) = self.child.lock() {
+            let _ = child.kill();
+            let _ = child.wait();
+        }
+    }
+}
+
+fn probe_numbers(slice: usize, behind: u32) -> [u32; 6] {
+    [0, slice as u32, behind, 0, 0, 0]
+}
+
+/// Ends a runner whose call takes too long, so that the reader of its output goes on.
+fn watch(child: Weak<Mutex<Child>>, steps: Arc<AtomicU64>) {
+    thread::spawn(move || {
+        let (mut step, mut since) = (0, Instant::now());
+        while let Some(child) = child.upgrade() {
+            let now = steps.load(Ordering::SeqCst);
+            if now != step {
+                (step, since) = (now, Instant::now());
+            }
+            if step % 2 == 1 && since.elapsed() > LONGEST_CALL {
+                if let Ok(mut child) = child.lock() {
+                    let _ = child.kill();
+                }
+            }
+            drop(child);
+            thread::sleep(Duration::from_millis(500));
+        }
+    });
+}

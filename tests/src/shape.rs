@@ -1,0 +1,182 @@
+//! Right blocks of every shape.
+
+use crate::draft::Draft;
+use crate::floats;
+use crate::law::descriptor::*;
+use crate::law::numbers::{read_signed, Order};
+use crate::law::rules::LAST_PLACE;
+use crate::random::Random;
+
+#[derive(Clone, Copy, PartialEq)]
+pub enum Table {
+    None,
+    Trigtime,
+    /// RISTIME of so many entries.
+    Ristime(i64),
+}
+
+/// What decides how long a right block's parts are.
+#[derive(Clone)]
+pub struct Shape {
+    pub order: Order,
+    pub word: bool,
+    pub two_arrays: bool,
+    /// SUBARRAY_COUNT: 0 and 1 both give one segment.
+    pub subarrays: i64,
+    /// M
+    pub points: i64,
+    pub table: Table,
+    pub user_text: usize,
+}
+
+impl Shape {
+    pub fn any(random: &mut Random) -> Shape {
+        let subarrays = match random.below(10) {
+            0 | 1 => 0,
+            2..=4 => 1,
+            5..=8 => random.range(2, 8),
+            _ => random.range(9, 40),
+        };
+        let points = match random.below(20) {
+            0..=2 => 1,
+            3..=12 => random.range(2, 12),
+            13..=18 => random.range(13, 80),
+            _ => random.range(81, 600),
+        };
+        let table = match (random.below(3), subarrays) {
+            (0, _) => Table::None,
+            (1, 0 | 1) => Table::Ristime(random.range(1, 10)),
+            _ => Table::Trigtime,
+        };
+        Shape {
+            order: any_order(random),
+            word: random.once_in(2),
+            two_arrays: random.once_in(3),
+            subarrays,
+            points,
+            table,
+            user_text: match random.below(4) {
+                0 | 1 => 0,
+                2 => random.below(20),
+                _ => random.below(300),
+            },
+        }
+    }
+
+    pub fn segments(&self) -> i64 {
+        self.subarrays.max(1)
+    }
+
+    /// Bytes of a sample.
+    pub fn width(&self) -> usize {
+        1 + usize::from(self.word)
+    }
+
+    /// A right block of this shape. Fields that no rule judges hold random bytes.
+    pub fn draft(&self, random: &mut Random) -> Draft {
+        let mut draft = Draft::plain(self.order);
+        draft.head = random.bytes(SIZE);
+        draft.set_frame_fields();
+        draft.set_width(self.width());
+        let count = self.segments() * self.points;
+        draft.set_long(WAVE_ARRAY_COUNT, count);
+        draft.set_long(SUBARRAY_COUNT, self.subarrays);
+        draft.set_long(SEGMENT_INDEX, self.segment_index(random));
+        self.set_places(&mut draft, random);
+        draft.user_text = random.bytes(self.user_text);
+        draft.array_1 = samples(random, count as usize * self.width());
+        if self.two_arrays {
+            draft.array_2 = samples(random, count as usize * self.width());
+        }
+        self.set_scale(&mut draft, random);
+        self.set_tables(&mut draft, random);
+        draft.fit_lengths();
+        if random.once_in(3) {
+            draft.tail = vec![10];
+        }
+        draft
+    }
+
+    fn segment_index(&self, random: &mut Random) -> i64 {
+        if self.segments() > 1 {
+            return 0;
+        }
+        random.pick(&[0, 0, 1, 2, 77, i64::from(i32::MAX)])
+    }
+
+    /// F and SPARSING_FACTOR, often with the last place at or near its limit.
+    fn set_places(&self, draft: &mut Draft, random: &mut Random) {
+        let highest = LAST_PLACE / (self.points - 1).max(1);
+        let few = random.range(2, 9).min(highest);
+        let any = random.range(1, highest);
+        let factor = random.pick(&[0, 0, 1, 1, few, few, any, highest]);
+        let span = factor.max(1) * (self.points - 1);
+        let room = LAST_PLACE - span;
+        let few = random.range(0, 20).min(room);
+        let any = random.range(0, room);
+        let first = random.pick(&[0, 0, few, few, any, room]);
+        draft.set_long(SPARSING_FACTOR, factor);
+        draft.set_long(FIRST_POINT, first);
+    }
+
+    /// Gain, offset, interval and horizontal offset. Offsets that meet a product exactly show the
+    /// sign of a zero.
+    fn set_scale(&self, draft: &mut Draft, random: &mut Random) {
+        let gain = f32::from_bits(floats::finite(random));
+        let sample = read_signed(&draft.array_1[..self.width()], self.order);
+        let met = gain * sample as f32;
+        let offset = match random.below(4) {
+            0 if met.is_finite() => met.to_bits(),
+            1 => random.pick(&[0f32, -0f32]).to_bits(),
+            _ => floats::finite(random),
+        };
+        draft.set_float(VERTICAL_GAIN, gain.to_bits());
+        draft.set_float(VERTICAL_OFFSET, offset);
+        let interval = f32::from_bits(floats::finite(random));
+        draft.set_float(HORIZ_INTERVAL, interval.to_bits());
+        let horiz_offset = self.time_offset(draft, interval, random);
+        draft.set_double(HORIZ_OFFSET, horiz_offset);
+    }
+
+    /// A double to be added to interval × i.
+    fn time_offset(&self, draft: &Draft, interval: f32, random: &mut Random) -> u64 {
+        let k = random.range(0, self.points - 1);
+        let i = draft.long(FIRST_POINT) + draft.long(SPARSING_FACTOR).max(1) * k;
+        match random.below(4) {
+            0 => (-(f64::from(interval) * i as f64)).to_bits(),
+            1 => random.pick(&[0f64, -0f64]).to_bits(),
+            _ => floats::finite_wide(random),
+        }
+    }
+
+    fn set_tables(&self, draft: &mut Draft, random: &mut Random) {
+        let interval = f32::from_bits(draft.long(HORIZ_INTERVAL) as u32);
+        let mut doubles = |count: i64| {
+            let bits: Vec<u64> =
+                (0..count).map(|_| self.time_offset(draft, interval, random)).collect();
+            draft.doubles(&bits)
+        };
+        match self.table {
+            Table::None => (),
+            Table::Trigtime => draft.trigtime = doubles(2 * self.segments()),
+            Table::Ristime(entries) => {
+                draft.ristime = doubles(entries);
+                draft.set_word(RIS_SWEEPS, entries);
+            }
+        }
+    }
+}
+
+pub fn any_order(random: &mut Random) -> Order {
+    random.pick(&[Order::HiFirst, Order::LoFirst])
+}
+
+/// Random samples, or those at both ends of a sample's range.
+fn samples(random: &mut Random, bytes: usize) -> Vec<u8> {
+    let mut samples = random.bytes(bytes);
+    if random.once_in(4) {
+        let ends = [0x00, 0x01, 0x7F, 0x80, 0xFF];
+        samples.iter_mut().for_each(|byte| *byte = ends[usize::from(*byte) % ends.len()]);
+    }
+    samples
+}
