@@ -7,10 +7,12 @@ use std::{env, fs};
 
 const LAW: &str = "../src/law";
 const LIST: &str = "wrong.txt";
+const BREAKS_DEMAND_3: &str = ", breaks demand 3";
 
 /// One entry of the list; a line left out has no wrong one.
 struct Entry {
     title: String,
+    breaks_demand_3: bool,
     file: String,
     right: String,
     wrong: String,
@@ -27,11 +29,15 @@ fn main() {
         let folder = out.join(format!("wrong_{number}"));
         write_copy(&folder, &files, entry);
         let module = folder.join("mod.rs");
-        let title = &entry.title;
+        let Entry { title, breaks_demand_3, .. } = entry;
         writeln!(modules, "#[path = {module:?}]\nmod wrong_{number};").expect("a string grows");
-        writeln!(names, "({title:?}, calls_of!(wrong_{number}::calls)),").expect("a string grows");
+        writeln!(
+            names,
+            "Version {{ title: {title:?}, breaks_demand_3: {breaks_demand_3}, calls: calls_of!(wrong_{number}::calls) }},"
+        )
+        .expect("a string grows");
     }
-    let text = format!("{modules}\npub const WRONG: &[(&str, Calls)] = &[\n{names}];\n");
+    let text = format!("{modules}\npub const WRONG: &[Version] = &[\n{names}];\n");
     fs::write(out.join("wrong.rs"), text).expect("OUT_DIR takes files");
 }
 
@@ -60,7 +66,11 @@ fn entries(list: &str) -> Vec<Entry> {
             let right =
                 part("- ").unwrap_or_else(|| panic!("{LIST}: \"{title}\" has no right line"));
             let wrong = part("+ ").unwrap_or("").to_string();
-            Entry { title, file: group[1].to_string(), right: right.to_string(), wrong }
+            let (file, breaks_demand_3) = match group[1].strip_suffix(BREAKS_DEMAND_3) {
+                Some(file) => (file.to_string(), true),
+                None => (group[1].to_string(), false),
+            };
+            Entry { title, breaks_demand_3, file, right: right.to_string(), wrong }
         })
         .collect()
 }

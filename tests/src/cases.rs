@@ -1,12 +1,16 @@
 //! A case: one block and what is asked of it, fixed by a seed and a case number.
 
 use crate::compare::{Checker, Difference};
+use crate::draft::nine_digits;
 use crate::edges::{self, Edge, EDGES};
+use crate::law::descriptor::*;
+use crate::law::numbers::{read_signed, store};
+use crate::law::rules::{open, HEADER};
 use crate::pairs;
 use crate::questions::{request, Extent};
 use crate::random::Random;
 use crate::request::Call;
-use crate::shape::Shape;
+use crate::shape::{any_order, Shape};
 
 /// One case in so many has a long block.
 const LARGE_EVERY: u64 = 400;
@@ -39,11 +43,14 @@ pub fn run(checker: &mut Checker, seed: u64, case: u64) -> (String, Result<(), D
             damage(&mut block, random);
             ("damage".into(), ask_any(checker, &block, random))
         }
-        _ => {
-            let block = right_block(random);
-            ("cut of a cut".into(), pairs::check(checker, &block, random))
-        }
+        _ => ("cut of a cut".into(), cut_of_cut(checker, random)),
     }
+}
+
+/// Two cuts, one after the other, of a right block.
+pub fn cut_of_cut(checker: &mut Checker, random: &mut Random) -> Result<(), Difference> {
+    let block = right_block(random);
+    pairs::check(checker, &block, random)
 }
 
 fn right_block(random: &mut Random) -> Vec<u8> {
@@ -62,30 +69,52 @@ fn two_faults(random: &mut Random) -> (&'static Edge, &'static Edge) {
 }
 
 /// Random damage: bytes changed (most often in the header and descriptor), cut off, added, moved.
+/// Half of the time the header is made to fit again, so that later rules see the damage.
 fn damage(block: &mut Vec<u8>, random: &mut Random) {
     for _ in 0..random.range(1, 3) {
         let length = block.len();
-        if length == 0 {
+        if length < HEADER {
             return;
         }
-        let near = random.below(length.min(357));
+        let near = random.below(length.min(HEADER + SIZE));
         let anywhere = random.below(length);
-        match random.below(8) {
+        match random.below(10) {
             0..=2 => block[near] ^= 1 << random.below(8),
             3 => block[near] = random.pick(&[0, 1, 0x7F, 0x80, 0xFF]),
-            4 => block[anywhere] = random.next() as u8,
+            4 => block[anywhere] = random.draw() as u8,
             5 => block.truncate(anywhere),
             6 => {
                 let more = 1 + random.below(20);
                 block.extend(random.bytes(more));
             }
-            _ => drop(block.remove(anywhere)),
+            7 => drop(block.drain(anywhere..length.min(anywhere + 16))),
+            _ => change_long(block, random),
         }
+    }
+    if block.len() > HEADER && random.once_in(2) {
+        let digits = nine_digits(block.len() - HEADER);
+        block[2..HEADER].copy_from_slice(&digits);
     }
 }
 
+/// Puts an extreme number, or one near the old, in place of a long that the rules judge.
+fn change_long(block: &mut [u8], random: &mut Random) {
+    let lengths = (0..10).map(length_at);
+    let judged = [WAVE_ARRAY_COUNT, FIRST_POINT, SPARSING_FACTOR, SEGMENT_INDEX, SUBARRAY_COUNT];
+    let fields: Vec<usize> = lengths.chain(judged).collect();
+    let at = HEADER + random.pick(&fields);
+    if block.len() < at + 4 {
+        return;
+    }
+    let order = any_order(random);
+    let old = read_signed(&block[at..at + 4], order);
+    let highest = i64::from(i32::MAX);
+    let new = random.pick(&[0, 1, 2, -1, highest, -highest - 1, old + 1, old - 1, -old, 2 * old]);
+    store(&mut block[at..at + 4], order, new as u64);
+}
+
 fn ask_any(checker: &mut Checker, block: &[u8], random: &mut Random) -> Result<(), Difference> {
-    if crate::law::rules::open(block).is_ok() {
+    if open(block).is_ok() {
         return ask_much(checker, block, random);
     }
     ask_little(checker, block, random)

@@ -1,6 +1,6 @@
 //! The comparison: every reply against that of the independent implementation, byte for byte.
 
-use crate::request::{Core, Reply, Request, LAW};
+use crate::request::{Calls, Core, Reply, Request};
 
 /// How many refusal numbers there are; 0 is counted with them.
 const NUMBERS: usize = 14;
@@ -29,22 +29,25 @@ impl Tally {
 /// A difference, in words.
 pub struct Difference(pub String);
 
-/// Asks a core, and compares each reply.
+/// Asks a core, and compares each reply with that of the law.
 pub struct Checker<'a> {
     core: &'a mut dyn Core,
+    law: Calls,
     pub tally: Tally,
     /// Print each call, and the block of a difference.
     pub verbose: bool,
 }
 
 impl<'a> Checker<'a> {
-    pub fn new(core: &'a mut dyn Core) -> Checker<'a> {
-        Checker { core, tally: Tally::default(), verbose: false }
+    pub fn new(core: &'a mut dyn Core, law: Calls) -> Checker<'a> {
+        Checker { core, law, tally: Tally::default(), verbose: false }
     }
 
     /// The core's reply, which is also the one expected.
     pub fn ask(&mut self, request: &Request) -> Result<Reply, Difference> {
-        let expected = LAW.reply(request);
+        let expected = self.law.ask(request).map_err(|why| {
+            self.difference(request, &[format!("the independent implementation: {why}")])
+        })?;
         if self.verbose {
             println!("{}: {}", describe(request), expected.number);
         }
@@ -95,7 +98,9 @@ pub fn slice_difference(name: &str, expected: &[u8], came: &[u8]) -> Option<Stri
     let first = expected.iter().zip(came).position(|(a, b)| a != b)?;
     let part = |bytes: &[u8]| hex(&bytes[first..bytes.len().min(first + 16)]);
     let (expected, came) = (part(expected), part(came));
-    Some(format!("{name}: {count} bytes differ, from {first}: expected {expected}, came {came}"))
+    Some(format!(
+        "{name}: differs from byte {first} on ({count} in all): expected {expected}, came {came}"
+    ))
 }
 
 fn hex(bytes: &[u8]) -> String {

@@ -560,6 +560,9 @@ pub static LARGE: &[Edge] = &[
     edge(2, "L 16,777,217", any, |d, r| lengthen(d, r, LONGEST_PAYLOAD + 1)),
     edge(0, "RIS_SWEEPS 32,767", |s, r| long_ristime(s, r, 32_767), as_it_is),
     edge(6, "RIS_SWEEPS 32,768", |s, r| long_ristime(s, r, 32_768), as_it_is),
+    edge(0, "L 16,777,216, nearly all of it samples", longest_array, |d, r| {
+        lengthen(d, r, LONGEST_PAYLOAD);
+    }),
     edge(0, "a long array", long_array, as_it_is),
     edge(0, "65,537 segments", long_trigtime, as_it_is),
     edge(8, "last of 65,537 TRIGTIME entries", long_trigtime, |d, _| {
@@ -578,6 +581,15 @@ fn lengthen(draft: &mut Draft, random: &mut Random, payload_len: usize) {
 fn long_ristime(shape: &mut Shape, random: &mut Random, entries: i64) {
     one_segment(shape, random);
     shape.table = Table::Ristime(entries);
+}
+
+fn longest_array(shape: &mut Shape, _: &mut Random) {
+    shape.word = true;
+    shape.two_arrays = false;
+    shape.subarrays = 4;
+    shape.table = Table::None;
+    shape.user_text = 0;
+    shape.points = (LONGEST_PAYLOAD - SIZE) as i64 / 8;
 }
 
 fn long_array(shape: &mut Shape, random: &mut Random) {

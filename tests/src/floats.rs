@@ -48,8 +48,8 @@ pub fn largest_wide(random: &mut Random) -> u64 {
 /// Bits with a given exponent, a random sign, and a fraction at an end of its range or anywhere.
 fn float(random: &mut Random, (start, highest): (u32, u64), exponent: u64) -> u64 {
     let ones = (1 << start) - 1;
-    let any = random.next() & ones;
+    let any = random.draw() & ones;
     let fraction = random.pick(&[0, 1, ones, 1 << (start - 1), any, any]);
-    let sign = random.next() & 1;
-    (sign * (highest + 1) | exponent) << start | fraction
+    let sign = random.draw() & 1;
+    ((sign * (highest + 1)) + exponent) << start | fraction
 }

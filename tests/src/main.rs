@@ -6,6 +6,7 @@ use std::time::{Duration, Instant};
 
 use tessarquin_tests::cases;
 use tessarquin_tests::compare::{Checker, Difference};
+use tessarquin_tests::request::LAW;
 use tessarquin_tests::runner::Runner;
 
 const USAGE: &str = "usage: compare [--seed S] [--cases N] [--case K] -- RUNNER [ARGUMENT..]
@@ -74,7 +75,7 @@ fn run_all(options: &Options) -> Result<String, String> {
     let Options { seed, cases, runner, .. } = options;
     Runner::probe(runner)?;
     let mut core = Runner::start(runner)?;
-    let mut checker = Checker::new(&mut core);
+    let mut checker = Checker::new(&mut core, LAW);
     let start = Instant::now();
     let mut told = start;
     for case in 0..*cases {
@@ -96,7 +97,7 @@ fn run_all(options: &Options) -> Result<String, String> {
 
 fn run_one(options: &Options, case: u64) -> Result<String, String> {
     let mut core = Runner::start(&options.runner)?;
-    let mut checker = Checker::new(&mut core);
+    let mut checker = Checker::new(&mut core, LAW);
     checker.verbose = true;
     let kind = run_case(&mut checker, options, case)?;
     Ok(format!("case {case} of seed {} ({kind}): no difference", options.seed))

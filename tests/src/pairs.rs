@@ -10,6 +10,9 @@ use crate::request::{Call, Reply};
 pub fn check(checker: &mut Checker, block: &[u8], random: &mut Random) -> Result<(), Difference> {
     let a = Extent::of(block).right_cut(random);
     let first = checker.ask(&exact_request(random, a, block))?;
+    if first.number != 0 {
+        return Err(Difference(format!("{a}: refused by {}", first.number)));
+    }
     let first_block = written(&first);
     kept_points(checker, block, a, &first, random)?;
 
@@ -71,7 +74,7 @@ fn same(of_cut: &Reply, at_once: &Reply, a: Call, b: Call) -> Result<(), Differe
     }
 }
 
-/// Some points of a cut block against the points of the first block that they are.
+/// The points of a cut block against the points of the first block that they are.
 fn kept_points(
     checker: &mut Checker,
     block: &[u8],
@@ -80,12 +83,7 @@ fn kept_points(
     random: &mut Random,
 ) -> Result<(), Difference> {
     let Call::Cut { sp, fp, sn, .. } = cut else { unreachable!("the call is a cut") };
-    let (before, after) = (Extent::of(block), Extent::of(written(reply)));
-    for _ in 0..3 {
-        let array = 1 + random.below(before.arrays as usize) as u32;
-        let segment = 1 + random.below(after.segments as usize) as u32;
-        let any = random.below(after.points as usize) as u32;
-        let k = random.pick(&[0, any, after.points - 1]);
+    for (array, segment, k) in some_points(&Extent::of(written(reply)), random) {
         let kept = Call::Point { array, segment, point: k };
         let first = Call::Point {
             array,
@@ -101,9 +99,26 @@ fn kept_points(
     Ok(())
 }
 
+/// Array, segment and number of every point of a small block, and of some points of another.
+fn some_points(extent: &Extent, random: &mut Random) -> Vec<(u32, u32, u32)> {
+    let all = u64::from(extent.arrays) * u64::from(extent.segments) * u64::from(extent.points);
+    let point = |n: u64| {
+        let (row, k) = (n / u64::from(extent.points), n % u64::from(extent.points));
+        let (array, segment) = (row / u64::from(extent.segments), row % u64::from(extent.segments));
+        (array as u32 + 1, segment as u32 + 1, k as u32)
+    };
+    if all <= 8 {
+        return (0..all).map(point).collect();
+    }
+    let last = all - 1;
+    let any = random.draw();
+    [0, last, any % all, (any >> 20) % all].into_iter().map(point).collect()
+}
+
 /// The block that a cut wrote.
 fn written(reply: &Reply) -> &[u8] {
-    &reply.out[..numbers(reply)[1] as usize]
+    let length = numbers(reply)[1] as usize;
+    &reply.out[..length.min(reply.out.len())]
 }
 
 fn numbers(reply: &Reply) -> [u64; 2] {

@@ -5,6 +5,9 @@ use crate::law::rules::{open, LAST_PLACE};
 use crate::random::Random;
 use crate::request::{Call, Request, LAW};
 
+/// The fill of a very long segment is asked with too little room, and takes no gigabyte.
+const MOST_ROOM: usize = 1 << 22;
+
 /// The limits of a block's questions.
 pub struct Extent {
     pub segments: u32,
@@ -138,7 +141,7 @@ impl Extent {
 pub fn request<'a>(random: &mut Random, call: Call, block: &'a [u8]) -> Request<'a> {
     let (out_need, answer_need) = need(call, block);
     let out_room = if out_need == 0 { 0 } else { room(random, out_need) };
-    let answer_room = room(random, answer_need);
+    let answer_room = room(random, answer_need).min(MOST_ROOM);
     with_room(random, call, block, out_room, answer_room)
 }
 

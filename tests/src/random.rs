@@ -9,12 +9,13 @@ impl Random {
     /// The numbers of one case; another seed or case gives unrelated ones.
     pub fn new(seed: u64, case: u64) -> Random {
         let mut random = Random { state: seed };
-        let start = random.next();
+        let start = random.draw();
         random.state = start ^ case.wrapping_mul(0xD134_2543_DE82_EF95);
         random
     }
 
-    pub fn next(&mut self) -> u64 {
+    /// Any 64 bits.
+    pub fn draw(&mut self) -> u64 {
         self.state = self.state.wrapping_add(0x9E37_79B9_7F4A_7C15);
         let mut mixed = self.state;
         mixed = (mixed ^ (mixed >> 30)).wrapping_mul(0xBF58_476D_1CE4_E5B9);
@@ -25,17 +26,17 @@ impl Random {
     /// A number from `low` to `high`, both included.
     pub fn range(&mut self, low: i64, high: i64) -> i64 {
         let count = (high - low) as u64 + 1;
-        low + (self.next() % count) as i64
+        low + (self.draw() % count) as i64
     }
 
     /// A number below `count`.
     pub fn below(&mut self, count: usize) -> usize {
-        (self.next() % count as u64) as usize
+        (self.draw() % count as u64) as usize
     }
 
     /// True once in so many times.
-    pub fn once_in(&mut self, times: u64) -> bool {
-        self.next() % times == 0
+    pub fn once_in(&mut self, times: usize) -> bool {
+        self.below(times) == 0
     }
 
     pub fn pick<T: Copy>(&mut self, choices: &[T]) -> T {
@@ -45,7 +46,7 @@ impl Random {
     pub fn bytes(&mut self, count: usize) -> Vec<u8> {
         let mut bytes = Vec::with_capacity(count + 8);
         while bytes.len() < count {
-            bytes.extend(self.next().to_le_bytes());
+            bytes.extend(self.draw().to_le_bytes());
         }
         bytes.truncate(count);
         bytes

@@ -59,6 +59,7 @@ pub struct Calls {
     pub open: fn(&[u8], &mut [u8]) -> u32,
     pub point: fn(&[u8], u32, u32, u32, &mut [u8]) -> u32,
     pub fill: fn(&[u8], u32, u32, &mut [u8]) -> u32,
+    #[allow(clippy::type_complexity)] // the C call's own parameters
     pub cut: fn(&[u8], u32, u32, u32, u32, u32, &mut [u8], &mut [u8]) -> u32,
 }
 

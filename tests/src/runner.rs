@@ -27,11 +27,16 @@ pub struct Runner {
 impl Runner {
     /// Starts the runner by its command line.
     pub fn start(command: &[String]) -> Result<Runner, String> {
+        Runner::start_with(command, Stdio::inherit())
+    }
+
+    fn start_with(command: &[String], messages: Stdio) -> Result<Runner, String> {
         let (program, arguments) = command.split_first().ok_or("no runner is named")?;
         let mut child = Command::new(program)
             .args(arguments)
             .stdin(Stdio::piped())
             .stdout(Stdio::piped())
+            .stderr(messages)
             .spawn()
             .map_err(|error| format!("{program} does not start: {error}"))?;
         let input = child.stdin.take().ok_or("the runner has no input")?;
@@ -51,7 +56,7 @@ impl Runner {
             if reply.spoiled != [*name] {
                 return Err(format!("the runner does not see a change before {name}"));
             }
-            let mut victim = Runner::start(command)?;
+            let mut victim = Runner::start_with(command, Stdio::null())?;
             match victim.exchange(&probe_numbers(slice, 1), [&[1], &[2], &[3]]) {
                 Err(why) if why.contains("signal") => (),
                 Err(why) => return Err(why),

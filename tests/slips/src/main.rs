@@ -1,18 +1,27 @@
 //! Tries the comparison itself: every wrong version of the independent implementation must be
-//! caught, and the right one must not be.
+//! caught, and the right one must not be. With --list it tells how each was caught.
 
 use std::panic;
 use std::process::ExitCode;
 
 use tessarquin_tests::cases;
 use tessarquin_tests::compare::{Checker, Difference};
+use tessarquin_tests::random::Random;
 use tessarquin_tests::request::{Calls, LAW};
+
+/// A wrong version.
+struct Version {
+    title: &'static str,
+    /// Whether a cut of a cut shows it, with nothing to compare with.
+    breaks_demand_3: bool,
+    calls: Calls,
+}
 
 mod wrong {
     #![allow(warnings)] // they are wrong on purpose
 
+    use super::Version;
     use tessarquin_tests::calls_of;
-    use tessarquin_tests::request::Calls;
 
     include!(concat!(env!("OUT_DIR"), "/wrong.rs"));
 }
@@ -22,38 +31,69 @@ const CASES: u64 = 4000;
 const SEED: u64 = 1;
 
 fn main() -> ExitCode {
-    if let Some(found) = first_difference(LAW) {
+    if let Some(found) = first_difference(LAW).or(first_broken_pair(LAW)) {
         println!("the right version: {found}");
         return ExitCode::FAILURE;
     }
     // A wrong version may panic; the comparison tells of it.
     panic::set_hook(Box::new(|_| ()));
-    let mut caught = 0;
-    for (title, calls) in wrong::WRONG {
-        match first_difference(*calls) {
-            Some(found) => {
-                caught += 1;
-                println!("{title}: {found}");
-            }
-            None => println!("{title}: NOT CAUGHT in {CASES} cases"),
-        }
-    }
-    println!("{caught} of {} wrong versions caught", wrong::WRONG.len());
-    if caught == wrong::WRONG.len() {
+    let list = std::env::args().any(|argument| argument == "--list");
+    let paired = |version: &&Version| version.breaks_demand_3;
+    let all_caught = tell("caught", list, wrong::WRONG.iter(), first_difference);
+    let pairs_caught = tell(
+        "caught by demand 3 alone",
+        list,
+        wrong::WRONG.iter().filter(paired),
+        first_broken_pair,
+    );
+    if all_caught && pairs_caught {
         ExitCode::SUCCESS
     } else {
         ExitCode::FAILURE
     }
 }
 
-/// The first difference between a version and the right one, in a line.
-fn first_difference(mut calls: Calls) -> Option<String> {
-    let mut checker = Checker::new(&mut calls);
-    for case in 0..CASES {
-        if let (kind, Err(Difference(text))) = cases::run(&mut checker, SEED, case) {
-            let text = text.split_whitespace().collect::<Vec<_>>().join(" ");
-            return Some(format!("case {case} ({kind}), {text}"));
+/// Prints how many versions are caught, and which are not; whether all are.
+fn tell<'a>(
+    caught_how: &str,
+    list: bool,
+    versions: impl Iterator<Item = &'a Version>,
+    catch: fn(Calls) -> Option<String>,
+) -> bool {
+    let (mut caught, mut all) = (0, 0);
+    for Version { title, calls, .. } in versions {
+        let found = catch(*calls);
+        caught += u32::from(found.is_some());
+        all += 1;
+        if list || found.is_none() {
+            println!("{title}: {}", found.unwrap_or(format!("NOT CAUGHT in {CASES} cases")));
         }
     }
-    None
+    println!("{caught} of {all} wrong versions {caught_how}");
+    caught == all && all > 0
+}
+
+/// The first difference between a version and the right one, in a line.
+fn first_difference(mut calls: Calls) -> Option<String> {
+    let mut checker = Checker::new(&mut calls, LAW);
+    (0..CASES).find_map(|case| {
+        let (kind, result) = cases::run(&mut checker, SEED, case);
+        result.err().map(|difference| line(case, &kind, difference))
+    })
+}
+
+/// The first cut of a cut in which a version is at odds with itself. It is compared with itself, so
+/// that nothing but demand 3 can show it.
+fn first_broken_pair(calls: Calls) -> Option<String> {
+    let mut core = calls;
+    let mut checker = Checker::new(&mut core, calls);
+    (0..CASES).find_map(|case| {
+        let result = cases::cut_of_cut(&mut checker, &mut Random::new(SEED, case));
+        result.err().map(|difference| line(case, "cut of a cut", difference))
+    })
+}
+
+fn line(case: u64, kind: &str, Difference(text): Difference) -> String {
+    let text = text.split_whitespace().collect::<Vec<_>>().join(" ");
+    format!("case {case} ({kind}), {text}")
 }
