@@ -2,7 +2,7 @@
 
 use crate::compare::{Checker, Difference};
 use crate::draft::nine_digits;
-use crate::edges::{self, Edge, EDGES};
+use crate::edges::{self, Edge};
 use crate::law::descriptor::*;
 use crate::law::numbers::{read_signed, store};
 use crate::law::rules::{open, HEADER};
@@ -19,8 +19,9 @@ const LARGE_EVERY: u64 = 400;
 pub fn run(checker: &mut Checker, seed: u64, case: u64) -> (String, Result<(), Difference>) {
     let random = &mut Random::new(seed, case);
     if case % LARGE_EVERY == LARGE_EVERY - 1 {
-        let (edge, draft) = edges::large(random, case / LARGE_EVERY);
-        return (format!("long block: {}", edge.name), ask_little(checker, &draft.bytes(), random));
+        let edge = take_turn(&edges::large_edges(), case / LARGE_EVERY);
+        let block = edges::one(edge, random).bytes();
+        return (format!("long block: {}", edge.name), ask_little(checker, &block, random));
     }
     match case % 8 {
         0 | 1 => {
@@ -29,7 +30,7 @@ pub fn run(checker: &mut Checker, seed: u64, case: u64) -> (String, Result<(), D
         }
         turn @ 2..=4 => {
             // The edges take turns, so that a few hundred cases have them all.
-            let edge = &EDGES[(case / 8 * 3 + turn - 2) as usize % EDGES.len()];
+            let edge = take_turn(&edges::edges(), case / 8 * 3 + turn - 2);
             let block = edges::one(edge, random).bytes();
             (format!("edge: {}", edge.name), ask_any(checker, &block, random))
         }
@@ -53,15 +54,19 @@ pub fn cut_of_cut(checker: &mut Checker, random: &mut Random) -> Result<(), Diff
     pairs::check(checker, &block, random)
 }
 
+fn take_turn(edges: &[&'static Edge], turn: u64) -> &'static Edge {
+    edges[(turn % edges.len() as u64) as usize]
+}
+
 fn right_block(random: &mut Random) -> Vec<u8> {
     Shape::any(random).draft(random).bytes()
 }
 
 /// Two edges that two different rules refuse.
 fn two_faults(random: &mut Random) -> (&'static Edge, &'static Edge) {
+    let edges = edges::edges();
     loop {
-        let (a, b) = (random.below(EDGES.len()), random.below(EDGES.len()));
-        let (a, b) = (&EDGES[a], &EDGES[b]);
+        let (a, b) = (random.pick(&edges), random.pick(&edges));
         if a.number != 0 && b.number != 0 && a.number != b.number {
             return (a, b);
         }

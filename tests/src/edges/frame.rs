@@ -1,0 +1,119 @@
+//! Edges of rules 1 to 4: the frame, the names, the form.
+
+use super::shapes::*;
+use super::{edge, Edge};
+use crate::draft::{nine_digits, Draft};
+use crate::law::descriptor::*;
+use crate::random::Random;
+
+pub static EDGES: &[Edge] = &[
+    // 1 FRAME
+    edge(1, "empty slice", any, |d, _| d.kept = Some(0)),
+    edge(1, "fewer than ten bytes", any, |d, r| d.kept = Some(r.below(10))),
+    edge(1, "ten bytes", any, |d, _| d.kept = Some(10)),
+    edge(2, "eleven bytes", any, |d, _| d.kept = Some(11)),
+    edge(1, "first byte", any, |d, r| d.start[0] = r.pick(b"\0\"$9 ")),
+    edge(1, "second byte", any, |d, r| d.start[1] = r.pick(b"\0\x2018:#")),
+    edge(1, "byte below the digits", any, |d, r| set_digit(d, r, b'/')),
+    edge(1, "byte above the digits", any, |d, r| set_digit(d, r, b':')),
+    edge(1, "sign, blank or high bit", any, |d, r| {
+        let byte = r.pick(b"+- \0\xB0\xFF");
+        set_digit(d, r, byte);
+    }),
+    // 2 LENGTH
+    edge(2, "L 345", any, |d, _| {
+        *d = Draft { head: d.head.clone(), ..Draft::plain(d.order) };
+        d.head.pop();
+    }),
+    edge(2, "stated L 0", any, |d, r| {
+        d.digits = Some(*b"000000000");
+        d.kept = r.pick(&[None, Some(11), Some(12)]);
+    }),
+    edge(2, "stated L the highest number", any, |d, _| d.digits = Some(*b"999999999")),
+    edge(2, "one byte short", any, |d, _| {
+        d.tail.clear();
+        d.kept = Some(10 + d.payload_len());
+    }),
+    edge(2, "stated L one more", any, |d, _| {
+        d.tail.clear();
+        d.digits = Some(nine_digits(d.payload_len() + 1));
+    }),
+    edge(2, "stated L one more, new line in its place", any, |d, _| {
+        d.tail = vec![10, 11];
+        d.digits = Some(nine_digits(d.payload_len() + 1));
+    }),
+    edge(2, "stated L one less, no new line", any, |d, _| {
+        d.tail.clear();
+        set_last_byte(d, 11);
+        d.digits = Some(nine_digits(d.payload_len() - 1));
+    }),
+    edge(5, "last sample passes for the new line", any, |d, _| {
+        d.tail.clear();
+        set_last_byte(d, 10);
+        d.digits = Some(nine_digits(d.payload_len() - 1));
+    }),
+    edge(0, "last sample is a new line", any, |d, _| {
+        d.tail.clear();
+        set_last_byte(d, 10);
+    }),
+    edge(0, "nothing behind", any, |d, _| d.tail.clear()),
+    edge(0, "new line behind", any, |d, _| d.tail = vec![10]),
+    edge(2, "another byte behind", any, |d, r| d.tail = vec![r.pick(&[0, 9, 11, 13, 32, 138])]),
+    edge(2, "two new lines behind", any, |d, _| d.tail = vec![10, 10]),
+    edge(2, "carriage return and new line", any, |d, _| d.tail = vec![13, 10]),
+    edge(2, "more behind the new line", any, |d, r| {
+        let more = 1 + r.below(40);
+        d.tail = [vec![10], r.bytes(more)].concat();
+    }),
+    // 3 NAME
+    edge(3, "a bit of the first name", any, |d, r| set_name_bytes(d, r, 0, 8)),
+    edge(3, "a bit of the second name", any, |d, r| set_name_bytes(d, r, 16, 26)),
+    edge(3, "a bit behind the first name", any, |d, r| set_name_bytes(d, r, 8, 16)),
+    edge(3, "a bit behind the second name", any, |d, r| set_name_bytes(d, r, 26, 32)),
+    edge(3, "byte right behind a name", any, |d, r| d.head[r.pick(&[8, 26])] = b' '),
+    edge(3, "last byte of a name", any, |d, r| d.head[r.pick(&[15, 31])] = 1),
+    edge(3, "another template", any, |d, r| d.head[25] = r.pick(b"0124")),
+    edge(3, "names change places", any, |d, _| d.head[..32].rotate_left(16)),
+    edge(3, "small letters", any, |d, _| d.head[..16].make_ascii_lowercase()),
+    // 4 FORM
+    edge(4, "COMM_ORDER 00 01", any, |d, _| set_comm_order(d, [0, 1])),
+    edge(4, "COMM_ORDER 01 01", any, |d, _| set_comm_order(d, [1, 1])),
+    edge(4, "COMM_ORDER with a high second byte", any, |d, r| {
+        let first = r.pick(&[0, 1]);
+        set_comm_order(d, [first, 1 << r.below(8)]);
+    }),
+    edge(4, "COMM_ORDER 02 00 and up", any, |d, r| set_comm_order(d, [2 + r.below(254) as u8, 0])),
+    edge(4, "COMM_TYPE 2", any, |d, _| d.set_word(COMM_TYPE, 2)),
+    edge(4, "COMM_TYPE -1", any, |d, _| d.set_word(COMM_TYPE, -1)),
+    edge(4, "COMM_TYPE 1 in the other order", any, |d, _| d.set_word(COMM_TYPE, 256)),
+    edge(4, "COMM_TYPE with a high byte", any, |d, r| {
+        let low = r.range(0, 1);
+        d.set_word(COMM_TYPE, low + 256 * r.range(1, 255));
+    }),
+    edge(5, "byte block under the other order", byte, |d, _| {
+        let other = 1 - d.head[COMM_ORDER] - d.head[COMM_ORDER + 1];
+        set_comm_order(d, [other, 0]);
+    }),
+];
+
+fn set_digit(draft: &mut Draft, random: &mut Random, byte: u8) {
+    let mut digits = nine_digits(draft.payload_len());
+    digits[random.below(9)] = byte;
+    draft.digits = Some(digits);
+}
+
+fn set_last_byte(draft: &mut Draft, byte: u8) {
+    let array = if draft.array_2.is_empty() { &mut draft.array_1 } else { &mut draft.array_2 };
+    if let Some(last) = array.last_mut() {
+        *last = byte;
+    }
+}
+
+fn set_name_bytes(draft: &mut Draft, random: &mut Random, from: usize, to: usize) {
+    let at = from + random.below(to - from);
+    draft.head[at] ^= 1 << random.below(8);
+}
+
+fn set_comm_order(draft: &mut Draft, bytes: [u8; 2]) {
+    draft.head[COMM_ORDER..COMM_ORDER + 2].copy_from_slice(&bytes);
+}
