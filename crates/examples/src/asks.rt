@@ -1,0 +1,102 @@
+// One case each: a block, with numbers of four bytes stored over it, a call, and a line with the number that the call gives.
+use crate::blocks;
+use cuts::Setup;
+use libc::STDOUT_FILENO;
+ghost use Prim.Native.Nat.{_≤_};
+
+// Opens a block as it is.
+pub fn takes(name: &[u8], shape: u32) {
+    opens(name, shape, 47, 346);
+}
+
+// Opens a block with a number stored over it.
+pub fn opens(name: &[u8], shape: u32, at: usize, value: u32) {
+    opens_two(name, shape, at, value, at, value);
+}
+
+// Opens a block with two numbers stored over it.
+pub fn opens_two(name: &[u8], shape: u32, at: usize, value: u32, also: usize, other: u32) {
+    let slice = 11 + blocks::payload(shape) as usize;
+    judge(name, shape, slice, at, value, also, other);
+}
+
+// Opens the first `slice` bytes of the example, with a number stored over it.
+pub fn slices(name: &[u8], slice: usize, at: usize, value: u32) {
+    judge(name, 0, slice, at, value, at, value);
+}
+
+// Asks for a point.
+pub fn points(name: &[u8], shape: u32, array: u32, segment: u32, k: u32) {
+    let mut block = [0u8; 512];
+    blocks::make(shape, &mut block);
+    let slice = 11 + blocks::payload(shape) as usize;
+    let p = points::point(first(&block, slice), array, segment, k);
+    print(p.refusal, name);
+}
+
+// Fills room for so many values.
+pub fn fills(name: &[u8], shape: u32, array: u32, segment: u32, room: usize) {
+    let mut block = [0u8; 512];
+    blocks::make(shape, &mut block);
+    let slice = 11 + blocks::payload(shape) as usize;
+    let mut out = [0.0f64; 4];
+    let most = within(room, 4);
+    let f = points::fill(first(&block, slice), array, segment, &mut out[..most]);
+    print(f.refusal, name);
+}
+
+// Cuts to so many bytes.
+pub fn cuts(name: &[u8], shape: u32, setup: Setup, order: u32, room: usize) {
+    let mut block = [0u8; 512];
+    blocks::make(shape, &mut block);
+    let slice = 11 + blocks::payload(shape) as usize;
+    let mut out = [0u8; 512];
+    let most = within(room, 512);
+    let w = cuts::cut(first(&block, slice), setup, order, &mut out[..most]);
+    print(w.refusal, name);
+}
+
+// Opens the first `slice` bytes of a block with two numbers stored over it.
+fn judge(name: &[u8], shape: u32, slice: usize, at: usize, value: u32, also: usize, other: u32) {
+    let mut block = [0u8; 512];
+    blocks::make(shape, &mut block);
+    store(at, value, &mut block);
+    store(also, other, &mut block);
+    let o = block::open(first(&block, slice));
+    print(o.refusal, name);
+}
+
+// A number over four bytes of a block.
+fn store(at: usize, value: u32, block: &mut [u8; 512]) {
+    if at <= 508 {
+        numbers::put_u32(value, 1, block, at);
+    }
+}
+
+// The first n bytes, or all where there are fewer.
+fn first<'a>(block: &'a [u8; 512], n: usize) -> &'a [u8] {
+    part(block, n)
+}
+
+// The same of a slice.
+fn part<'a>(block: &'a [u8], n: usize) -> &'a [u8] {
+    let end = within(n, block.len());
+    &block[..end]
+}
+
+// n, and at most `most`.
+fn within(n: usize, most: usize) -> usize
+    ensures { λ r. ⌜ r ≤ most ⌝ }
+{
+    if n < most { n } else { most }
+}
+
+// The number in two digits, and the case.
+fn print(number: u32, name: &[u8]) {
+    let mut word = [b' '; 3];
+    word[0] = 48 + (number / 10 % 10) as u8;
+    word[1] = 48 + (number % 10) as u8;
+    io::write_all(STDOUT_FILENO, &word);
+    io::write_all(STDOUT_FILENO, name);
+    io::write_all(STDOUT_FILENO, b"\n");
+}
