@@ -6,7 +6,7 @@
 SHELL := /bin/bash
 .SHELLFLAGS := -eu -o pipefail -c
 MAKEFLAGS += --no-print-directory
-.PHONY: list test archive host checked soak bench fmt tools
+.PHONY: list test archive host checked compare soak bench fmt tools
 
 # The compiled code is for x86-64: elsewhere it is linked by a cross compiler and run by an emulator.
 ifeq ($(shell uname -m),x86_64)
@@ -23,6 +23,7 @@ endif
 CFLAGS := -std=gnu11 -O2 -Wall -Wextra -Werror -static -Iinclude
 ARCHIVE := target/staticlib/libtessarquin.a
 FILE ?= crates/listing/stdin
+CARGO := --release --offline --locked --manifest-path tests/Cargo.toml --target-dir target/tests
 SEED ?= 1
 N ?= 100000
 
@@ -51,6 +52,27 @@ checked: host
 	@$(CC) $(CFLAGS) host/calls.c $(ARCHIVE) -o target/host/calls
 	@$(RUN) target/host/calls
 	@host/test '$(RUN)' target/host/trace crates/listing/stdin
+	@cargo test -q $(CARGO)
+	@$(MAKE) compare
+	@target/tests/release/slips
+	@target/tests/release/compare --cases 40000 --seed 1 -- $(RUN) target/tests/runner
+
+# The independent reader and the runner that makes the calls.
+compare: tools archive
+	@cargo build -q $(CARGO) --workspace
+	@$(CC) $(CFLAGS) tests/runner.c $(ARCHIVE) -o target/tests/runner
+
+soak: compare
+	@target/tests/release/compare --cases $(N) --seed $(SEED) -- $(RUN) target/tests/runner
+
+# Counted by the emulator on every machine; where the machine is x86-64, times stand beside the counts.
+bench: tools archive
+	@command -v qemu-x86_64 >/dev/null || { apt-get update -q && apt-get install -qy qemu-user; } >target/packages.log 2>&1
+	@mkdir -p target/bench
+	@gcc -O2 -Wall -Wextra -Werror -fPIC -shared bench/count.c -o target/bench/count.so
+	@$(CC) -std=gnu11 -O3 -Wall -Wextra -Werror -c bench/same.c -o target/bench/same.o
+	@$(CC) $(CFLAGS) bench/bench.c target/bench/same.o $(ARCHIVE) -o target/bench/bench
+	@bench/run target/bench/bench target/bench/count.so $(if $(RUN),no,yes)
 
 fmt:
 	@rt fmt

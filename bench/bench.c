@@ -65,6 +65,7 @@ static void make(int asked_order, size_t width, size_t segments, size_t in_each,
 
 static uint32_t opened(void) { return tessarquin_open(block, length, answer, sizeof answer); }
 static uint32_t one_point(void) { return tessarquin_point(block, length, 1, 1, (uint32_t)(points - 1), answer, sizeof answer); }
+static uint32_t last_segment(void) { return tessarquin_point(block, length, 1, (uint32_t)points, 0, answer, sizeof answer); }
 static uint32_t filled(void) { return tessarquin_fill(block, length, 1, 1, out, 8 * points); }
 
 static uint32_t cut_by(uint32_t sp, uint32_t to)
@@ -98,6 +99,7 @@ static const struct work {
     {"open-trigger", 1, 2, 1, opened, NULL},
     {"open-trigger-high", 0, 2, 1, opened, NULL},
     {"point", 1, 2, 0, one_point, NULL},
+    {"point-trigger", 1, 2, 1, last_segment, NULL},
     {"fill-word-low", 1, 2, 0, filled, c_words_low},
     {"fill-word-high", 0, 2, 0, filled, c_words_high},
     {"fill-byte", 1, 1, 0, filled, c_bytes},
