@@ -1,6 +1,6 @@
 -- Samples of one or two bytes: fewer of them stand where more do (`fewer`), one is small and comes back from an i32 as it is (`small`, `returned`),
 -- and one byte is the same sample in every order (`any-order`).
-use mathlib.Core.Path.{_≡_, refl, sym, ap, subst, _∙_}
+use mathlib.Core.Path.{_≡_, refl, sym, subst, _∙_}
 use mathlib.Core.List.{List, [], _∷_}
 use Prim.Native.Nat.{ℕ, zero, suc, _+_, _*_, _^_, _≤_, _<_}
 use native.Mathlib.Nat.{le-trans, lt-of-le-of-lt, mul-le-mul-right, le-mul-of-pos-right}
