@@ -1,0 +1,3 @@
+pub mod Listing
+pub mod Pages
+pub mod Inputs
