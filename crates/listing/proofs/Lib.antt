@@ -1,2 +1,3 @@
 pub mod Texts
 pub mod Rests
+pub mod Printed

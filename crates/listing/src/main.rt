@@ -17,11 +17,15 @@ enum Input {
 fn main() {
     // one byte more than is listed, so that longer input is seen
     let mut buffer = [0u8; 65537];
-    match read_input(&mut buffer) {
-        Input::Bytes(n) => print(&buffer[..n]),
-        Input::Failed => {
-            io::write_all(STDERR_FILENO, b"listing: standard input cannot be read\n");
-        }
+    let Input::Bytes(n) = read_input(&mut buffer) else {
+        io::write_all(STDERR_FILENO, b"listing: standard input cannot be read\n");
+        return;
+    };
+    if !print(&buffer[..n]) {
+        io::write_all(
+            STDERR_FILENO,
+            b"listing: standard output cannot be written\n",
+        );
     }
 }
 
@@ -53,8 +57,8 @@ fn read_once(buffer: &mut [u8]) -> Input
     Input::Bytes(io::count(got, buffer))
 }
 
-// Writes the listing of a block to standard output; stops where a write fails.
-fn print(block: &[u8]) {
+// Writes the listing of a block to standard output, page by page, and answers whether all of it was taken.
+fn print(block: &[u8]) -> bool {
     let mut page = io::buffer();
     let out: &mut [u8] = &mut page;
     let first = pages::put_front(block, out);
@@ -66,4 +70,5 @@ fn print(block: &[u8]) {
         going = io::write_all(STDOUT_FILENO, &out[..count]);
         spot = written.spot;
     }
+    going
 }

@@ -10,6 +10,9 @@ ghost use Rattle.rules.specs.Rules.{opened};
 ghost use Rattle.listing.specs.Listing.{listing, pointLine};
 ghost use Rattle.listing.specs.Pages.{Wrote, Stands, Paged, front, rest, spotAt};
 
+// The most bytes of input that are listed.
+const MOST: usize = 65536;
+
 // Where a listing stands: before the point at a place of a segment, or at its end, where the place is refused.
 pub struct Spot {
     pub segment: u32,
@@ -28,7 +31,7 @@ pub fn put_front(block: &[u8], out: &mut [u8]) -> usize
     ensures { λ r. ⌜ Wrote (now (out .entry)) 0 (front (now (block .entry))) (now (out .exit)) r ⌝ }
     ensures { λ r. ⌜ r ≤ 56 ⌝ }
 {
-    if block.len() > 65536 {
+    if block.len() > MOST {
         return lines::put_too_long(out);
     }
     let o = block::open(block);
@@ -43,7 +46,7 @@ pub fn begin(block: &[u8]) -> Spot
     ensures { λ r. ⌜ Stands (now (block .entry)) r ⌝ }
     ensures { λ r. ⌜ listing (now (block .entry)) ≡ front (now (block .entry)) ++ rest (now (block .entry)) r ⌝ }
 {
-    if block.len() > 65536 {
+    if block.len() > MOST {
         return spot_at(block, 0);
     }
     spot_at(block, 1)

@@ -19,15 +19,6 @@ read-input-requires c κs = search needs
 enum-known-n : tie.Need-enum-known-n
 enum-known-n c = search needs
 
-array-share-prefix-buffer : tie.Need-array-share-prefix-buffer
-array-share-prefix-buffer c = counts c .0
-
-slice-aggregate-print : tie.Need-slice-aggregate-print
-slice-aggregate-print c = counts (c .before) .1
-
-print-requires : tie.Need-print-requires
-print-requires c κs = search needs
-
 enum-told : tie.Need-enum-told
 enum-told c = search needs
 
@@ -40,8 +31,26 @@ write-all-requires c κs = search needs
 returns : tie.Need-returns
 returns c = search needs
 
+array-share-prefix-buffer : tie.Need-array-share-prefix-buffer
+array-share-prefix-buffer c = counts c .0
+
+slice-aggregate-print : tie.Need-slice-aggregate-print
+slice-aggregate-print c = counts (c .before) .1
+
+print-requires : tie.Need-print-requires
+print-requires c κs = search needs
+
+slice-aggregate-write-all-2 : tie.Need-slice-aggregate-write-all-2
+slice-aggregate-write-all-2 c = search needs
+
+write-all-requires-2 : tie.Need-write-all-requires-2
+write-all-requires-2 c κs = search needs
+
 returns-2 : tie.Need-returns-2
 returns-2 c = search needs
+
+returns-3 : tie.Need-returns-3
+returns-3 c = search needs
 
 pub main-spec : {M : Type 1} → statement M
 main-spec =
@@ -50,11 +59,14 @@ main-spec =
     slice-aggregate-read-input
     read-input-requires
     enum-known-n
-    array-share-prefix-buffer
-    slice-aggregate-print
-    print-requires
     enum-told
     slice-aggregate-write-all
     write-all-requires
     returns
-    returns-2)
+    array-share-prefix-buffer
+    slice-aggregate-print
+    print-requires
+    slice-aggregate-write-all-2
+    write-all-requires-2
+    returns-2
+    returns-3)
