@@ -1,4 +1,4 @@
--- What is left of a listing at a spot: the line of its point, and what is left at the next spot (`goes-on`, `goes-over`); behind the first line, all (`whole`).
+-- What is left of a listing at a spot: the line of its point, and what is left at the next spot (`goes-on`, `goes-over`); behind the first line, all (`whole-long`, `whole-short`).
 use mathlib.Core.Path.{_≡_, refl, sym, ap, ap₂, _∙_, subst}
 use mathlib.Core.Bool.{Bool, true, false, cond, not}
 use mathlib.Core.Logic.{inl}
@@ -22,7 +22,7 @@ use Rattle.block.specs.Opened.{openedAs}
 use Rattle.block.proofs.Answers.{number-is, accepted-as}
 use Rattle.points.specs.declared.walk.Place.{Place}
 use Rattle.points.specs.declared.walk.Step.{Step}
-use Rattle.points.specs.declared.walk.Step.the-variants.{Point}
+use Rattle.points.specs.declared.walk.Step.the-variants.{Point, Done}
 use Rattle.points.specs.Walks.{startBy, acceptedPlace, placeOf, movedTo, afterOf, stepAt}
 use Rattle.points.proofs.Refusals.{walk-points, walk-none, walk-block}
 use Rattle.points.proofs.Walking.{step-point}
@@ -68,11 +68,6 @@ unfolding upFrom
 up-none i k m h = let e : m - k ≡ 0 = omega arith in ap (upFrom i) e
 
 module _ (w : Wave) (n k : ℕ) where
-  -- a line has a byte
-  pub line-some : 0 < length (pointLine w n k)
-  unfolding pointLine
-  line-some = omega (arith, length-append (decimal n) (32 ∷ line (decimal k ∷ hex (toBits binary64 (value w 1 n k)) ∷ hex (toBits binary64 (time w n k)) ∷ [])))
-
   abbrev later : List ℕ
   later = flatten (map (λ m. segmentLines w m 0) (upFrom (suc n) (segments (w .head) - n)))
 
@@ -100,6 +95,28 @@ unfolding whole isNan
 clean L nan h = h
 clean L (inf s) h = tt
 clean L (fin s m e) h = tt
+
+-- ---- what a step hands out
+
+differ : (r : Step) (v t : Float) → r ≡ Point v t → r ≡ Done → ⊥
+differ r v t p q = let z : _≡_ {A = ℕ} 0 1 = cc in omega arith
+
+alike : (r : Step) (x y v t : Float) → r ≡ Point x y → r ≡ Point v t → (x ≡ v) × (y ≡ t)
+alike r x y v t p q = ((cc), (cc))
+
+-- v and t are the value and the time of the point at a spot, and no NaN
+pub record Handed (s : List ℕ) (spot : Spot) (v t : Float) : Type 0 where
+  pub value-is : v ≡ value (opened s) 1 (spot .segment) (spot .place .k)
+  pub time-is : t ≡ time (opened s) (spot .segment) (spot .place .k)
+  pub value-clean : T (not (isNan v))
+  pub time-clean : T (not (isNan t))
+
+-- the point's line, of their bits
+pub handed-line : (s : List ℕ) (spot : Spot) (v t : Float) → Handed s spot v t → (x y : ℕ) → x ≡ toBits binary64 v → y ≡ toBits binary64 t
+    → line (decimal (spot .segment) ∷ decimal (spot .place .k) ∷ hex x ∷ hex y ∷ []) ≡ pointLine (opened s) (spot .segment) (spot .place .k)
+unfolding pointLine
+handed-line s spot v t h x y p q =
+    ap₂ {C = List ℕ} (λ x y. line (decimal (spot .segment) ∷ decimal (spot .place .k) ∷ hex x ∷ hex y ∷ [])) (p ∙ ap (toBits binary64) (h .value-is)) (q ∙ ap (toBits binary64) (h .time-is))
 
 -- a page leaves less
 pub shorter : (s : List ℕ) (from : Spot) (out : List ℕ) (r : Page) → Paged s from out r → from .place .refusal ≡ 0 → length (rest s (r .spot)) < length (rest s from)
@@ -184,15 +201,23 @@ module _ (s : List ℕ) (b : Bytes s) where
     answers : pointRefusal s 1 n k ≡ 0
     answers = walk-points s 1 n walks k below
 
-    -- the step there answers its point, whose numbers are no NaN
-    pub step-is : stepAt s (spot .place) ≡ Point (value (opened s) 1 n k) (time (opened s) n k)
+    step-is : stepAt s (spot .place) ≡ Point (value (opened s) 1 n k) (time (opened s) n k)
     step-is = ap (stepAt s) is ∙ step-point s b 1 n k answers below
 
-    pub value-clean : T (not (isNan (value (opened s) 1 n k)))
-    value-clean = clean 149 (value (opened s) 1 n k) (point-near s b 1 n k answers .value-near .is-whole)
+    -- the step there is not done, and hands out its point's numbers
+    pub step-never : (r : Step) → r ≡ stepAt s (spot .place) → r ≡ Done → ⊥
+    step-never r e d = differ r (value (opened s) 1 n k) (time (opened s) n k) (e ∙ step-is) d
 
-    pub time-clean : T (not (isNan (time (opened s) n k)))
-    time-clean = clean 1074 (time (opened s) n k) (point-near s b 1 n k answers .time-near .is-whole)
+    pub step-handed : (r : Step) (v t : Float) → r ≡ stepAt s (spot .place) → r ≡ Point v t → Handed s spot v t
+    step-handed r v t e p =
+        let q = alike r v t (value (opened s) 1 n k) (time (opened s) n k) p (e ∙ step-is) in
+        let near = point-near s b 1 n k answers in
+        record {
+          value-is = q .0;
+          time-is = q .1;
+          value-clean = subst (λ (x : Float). T (not (isNan x))) (sym (q .0)) (clean 149 (value (opened s) 1 n k) (near .value-near .is-whole));
+          time-clean = subst (λ (x : Float). T (not (isNan x))) (sym (q .1)) (clean 1074 (time (opened s) n k) (near .time-near .is-whole));
+        }
 
     -- there is room for one segment more
     pub segment-small : n < 2147483648
@@ -259,3 +284,7 @@ module _ (s : List ℕ) (b : Bytes s) where
           ap (λ (ns : List ℕ). firstLine (opened s .head) ++ flatten (map (λ n. segmentLines (opened s) n 0) ns)) (ap (upFrom 1) one ∙ up-cons 1 0 g (omega arith))
           ∙ ap (λ (x : List ℕ). firstLine (opened s .head) ++ x) (sym (rest-at 1 (walked 1 q (omega arith) (omega arith))))
       go (suc r) q = sym (append-nil (refusedLine (suc r))) ∙ ap (λ (x : List ℕ). refusedLine (suc r) ++ x) (sym (rest-none 1 (λ e. omega (arith, accepted 1 e))))
+
+  -- the spot behind the first line
+  pub behind-first : (n : ℕ) (r : Spot) → r ≡ spotAt s n → listing s ≡ front s ++ rest s (spotAt s n) → Stands s r × (listing s ≡ front s ++ rest s r)
+  behind-first n r e w = subst (λ (r : Spot). Stands s r × (listing s ≡ front s ++ rest s r)) (sym e) (stands-at n, w)

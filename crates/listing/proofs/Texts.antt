@@ -2,17 +2,17 @@
 use mathlib.Core.Path.{_≡_, refl, sym, ap, ap₂, _∙_, subst}
 use mathlib.Core.Bool.{Bool, true, false, cond}
 use mathlib.Core.List.{List, [], _∷_, _++_, map, reverse, reverse-cons, map-append, append-assoc}
-use Prim.Native.Nat.{ℕ, zero, suc, _+_, _-_, _*_, _/_, _%_, _^_, _≤_, _<_}
+use Prim.Native.Nat.{ℕ, zero, suc, _+_, _-_, _/_, _%_, _^_, _≤_, _<_}
 use native.Mathlib.Nat.{div-lt-iff-lt-mul, pow-suc, pow-zero}
 use native.Mathlib.Omega.{arith}
-use lib.ListN.{length, take, drop, set, getD, length-append, length-map, length-reverse}
+use lib.ListN.{length, take, drop, set, length-append, length-map, length-reverse}
 use lib.Seq.{take-at, length-take-le, lt-length-set, take-set-le, drop-set-lt, drop-cons, getD-set-same, sets-eq}
 use lib.Dec.{ltb}
 use borrow.Author.Tests.{ltb-true, ltb-false, lt-ltb, le-ltb}
 use Rattle.rules.specs.Numbers.{digits, splice}
 use Rattle.rules.proofs.Numbers.{length-digits}
 use Rattle.copies.proofs.Laws.{length-splice, splice-splice, then}
-use Rattle.listing.specs.Listing.{sign, spelled, placesBy, places, decimal, line}
+use Rattle.listing.specs.Listing.{sign, spelled, placesBy, places, line}
 use Rattle.listing.specs.Pages.{Wrote}
 
 -- ---- digits

@@ -8,7 +8,6 @@ use lib.Dec.{ltb}
 use Rattle.rules.specs.Numbers.{upFrom, splice}
 use Rattle.rules.specs.Wave.{Wave, segments}
 use Rattle.rules.specs.Rules.{refusal, opened}
-use Rattle.points.specs.declared.walk.Place.{Place}
 use Rattle.points.specs.Walks.{placeOf, movedTo}
 use Rattle.listing.specs.Listing.{firstLine, refusedLine, tooLong, segmentLines}
 use Rattle.listing.specs.declared.pages.Spot.{Spot}

@@ -1,7 +1,7 @@
 // The lines of a listing, each written over a lent buffer.
 use crate::text;
 ghost use mathlib.Core.List.{[], _∷_};
-ghost use Prim.Native.Nat.{_+_, _≤_};
+ghost use Prim.Native.Nat.{_+_, _≤_, _<_};
 ghost use lib.ListN.{length};
 ghost use Rattle.listing.specs.Listing.{line, decimal, hex, refusedLine, tooLong};
 ghost use Rattle.listing.specs.Pages.{Wrote};
@@ -10,7 +10,7 @@ ghost use Rattle.listing.specs.Pages.{Wrote};
 pub fn put_point(segment: u32, k: u32, value: u64, time: u64, out: &mut [u8], at: usize) -> usize
     requires { ⌜ at + 56 ≤ length (now out) ⌝ }
     ensures { λ r. ⌜ Wrote (now (out .entry)) at (line (decimal segment ∷ decimal k ∷ hex value ∷ hex time ∷ [])) (now (out .exit)) r ⌝ }
-    ensures { λ r. ⌜ r ≤ at + 56 ⌝ }
+    ensures { λ r. ⌜ (at < r) × (r ≤ at + 56) ⌝ }
 {
     let a = text::put_decimal(segment, b' ', out, at);
     let b = text::put_decimal(k, b' ', out, a);

@@ -14,6 +14,7 @@ enum Input {
     Failed,
 }
 
+// Prints the listing of the block on standard input.
 fn main() {
     // one byte more than is listed, so that longer input is seen
     let mut buffer = [0u8; 65537];

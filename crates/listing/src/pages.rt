@@ -4,7 +4,7 @@ use points::Place;
 use points::Step;
 ghost use mathlib.Core.Path.{_≡_};
 ghost use mathlib.Core.List.{_++_};
-ghost use Prim.Native.Nat.{_+_, _≤_};
+ghost use Prim.Native.Nat.{_+_, _≤_, _<_};
 ghost use lib.ListN.{length};
 ghost use Rattle.rules.specs.Rules.{opened};
 ghost use Rattle.listing.specs.Listing.{listing, pointLine};
@@ -87,7 +87,7 @@ fn put_line(block: &[u8], spot: Spot, out: &mut [u8], at: usize) -> usize
     requires { ⌜ spot .place .refusal ≡ 0 ⌝ }
     requires { ⌜ at + 56 ≤ length (now out) ⌝ }
     ensures { λ r. ⌜ Wrote (now (out .entry)) at (pointLine (opened (now (block .entry))) (spot .segment) (spot .place .k)) (now (out .exit)) r ⌝ }
-    ensures { λ r. ⌜ r ≤ at + 56 ⌝ }
+    ensures { λ r. ⌜ (at < r) × (r ≤ at + 56) ⌝ }
 {
     let place = spot.place;
     let Step::Point { value, time } = points::step_at(block, place) else {

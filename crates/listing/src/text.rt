@@ -12,7 +12,7 @@ ghost use Rattle.listing.specs.Pages.{Wrote};
 pub fn put_decimal(n: u32, end: u8, out: &mut [u8], at: usize) -> usize
     requires { ⌜ at + 11 ≤ length (now out) ⌝ }
     ensures { λ r. ⌜ Wrote (now (out .entry)) at (decimal n ++ (end ∷ [])) (now (out .exit)) r ⌝ }
-    ensures { λ r. ⌜ r ≤ at + 11 ⌝ }
+    ensures { λ r. ⌜ (at < r) × (r ≤ at + 11) ⌝ }
 {
     let width = places(n as u64);
     put_word(n as u64, 10, width, end, out, at)

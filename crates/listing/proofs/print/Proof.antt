@@ -54,7 +54,10 @@ write-all-requires-2 : tie.Need-write-all-requires-2 Inv-loop μ-loop
 write-all-requires-2 c κs = search needs
 
 loop-less : tie.Need-loop-less Inv-loop μ-loop
-loop-less c = shorter (c .before .before .before .before .before .before .before .before .before .before .before .before .before .before .before .before .before .before .before .before .before .args .block .now) (c .before .before .before .before .before .before .before .before .before .before .loop .spot) _ (c .before .before .before .before .before .put-page .result) (c .before .before .before .before .before .put-page .ensures) (eqb-true (c .before .before .before .before .before .before .before .before .before .before .loop .spot .place .refusal) 0 (c .before .before .before .before .before .before .before .if1 .taken))
+loop-less c =
+    let l = c .before .before .before .before .before .before .before .before .before .before .loop in
+    let r = c .before .before .before .before .before .put-page in
+    shorter (c .before .before .before .before .before .before .before .before .before .before .before .before .before .before .before .before .before .before .before .before .before .args .block .now) (l .spot) _ (r .result) (r .ensures) (eqb-true (l .spot .place .refusal) 0 (c .before .before .before .before .before .before .before .if1 .taken))
 
 loop-again : tie.Need-loop-again Inv-loop μ-loop
 loop-again c = (omega (arith, c .before .before .before .before .before .put-page .kept .1 .1 .0, c .before .before .before .before .before .before .before .before .before .before .loop .inv .0), c .before .before .before .before .before .put-page .ensures .stands)

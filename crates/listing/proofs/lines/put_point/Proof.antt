@@ -33,7 +33,7 @@ returns c =
       word-line n k (v ∷ t ∷ []) (c .before .before .before .before .before .before .before .before .before .before .before .before .before .before .put-decimal .ensures .0)
           (word-line k v (t ∷ []) (c .before .before .before .before .before .before .before .before .before .before .put-decimal2 .ensures .0) (word-line v t [] (c .before .before .before .before .before .before .put-hex .ensures .0) (c .before .before .put-hex2 .ensures .0) (omega arith)) (omega arith))
           (omega arith),
-      omega arith,
+      (omega arith, omega arith),
     )
 
 pub put-point-spec : {M : Type 1} → statement M

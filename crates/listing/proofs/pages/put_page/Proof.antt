@@ -1,5 +1,5 @@
 -- Line after line; what is written and what is left are always what was left at first.
-use mathlib.Core.Path.{_≡_, refl, sym, ap, _∙_, subst}
+use mathlib.Core.Path.{_≡_, refl, sym, ap, _∙_}
 use mathlib.Core.List.{List, _++_, append-assoc}
 use Prim.Native.Nat.{ℕ, zero, suc, _+_, _-_, _≤_, _<_}
 use native.Mathlib.Omega.{arith}
@@ -10,7 +10,6 @@ use Rattle.listing.specs.declared.pages.Spot.{Spot}
 use Rattle.listing.specs.Listing.{pointLine}
 use Rattle.listing.specs.Pages.{Stands, rest}
 use Rattle.listing.proofs.Texts.{taken}
-use Rattle.listing.proofs.Rests.{line-some}
 use borrow.Author.Needs.{needs}
 use Rattle.listing.proofs.pages.put_page.Statement.{statement}
 use Rattle.listing.proofs.pages.put_page.Tie as tie
@@ -46,8 +45,8 @@ after-line-requires c κs = (c .before .before .before .before .before .before .
 loop-less : tie.Need-loop-less Inv-loop μ-loop
 loop-less c =
     let l = c .before .before .before .before .before .before .before .before .loop in
-    let s = c .before .before .before .before .before .before .before .before .before .before .before .args .block .now in
-    omega (arith, line-some (opened s) (l .here .segment) (l .here .place .k), c .before .before .before .put-line .ensures .0 .ends, leb-true (l .at) _ (c .before .before .before .before .before .if2 .taken), l .inv .0, l .inv .1)
+    let r = c .before .before .before .put-line .ensures .1 in
+    omega (arith, r .0, r .1, leb-true (l .at) _ (c .before .before .before .before .before .if2 .taken), l .inv .0, l .inv .1)
 
 loop-again : tie.Need-loop-again Inv-loop μ-loop
 loop-again c =
@@ -55,14 +54,13 @@ loop-again c =
     let s = c .before .before .before .before .before .before .before .before .before .before .before .args .block .now in
     let w = c .before .before .before .put-line .ensures .0 in
     let bs : List ℕ = pointLine (opened s) (l .here .segment) (l .here .place .k) in
-    let b : 0 < length bs = line-some (opened s) (l .here .segment) (l .here .place .k) in
     let k = c .before .before .before .put-line .kept .1 .1 .0 in (
       k ∙ l .inv .0,
       l .inv .1,
-      omega (arith, k, c .before .before .before .put-line .ensures .1, leb-true (l .at) _ (c .before .before .before .before .before .if2 .taken), l .inv .0, l .inv .1),
+      omega (arith, k, c .before .before .before .put-line .ensures .1 .1, leb-true (l .at) _ (c .before .before .before .before .before .if2 .taken), l .inv .0, l .inv .1),
       c .after-line .ensures .0,
       l .inv .4 ∙ ap (λ (x : List ℕ). take (l .at) (l .out) ++ x) (c .after-line .ensures .1) ∙ sym (append-assoc (take (l .at) (l .out)) bs (rest s (c .after-line .result))) ∙ ap (λ (x : List ℕ). x ++ rest s (c .after-line .result)) (sym (taken w (l .inv .2))),
-      λ z. absurd (omega (arith, w .ends)),
+      λ z. absurd (omega (arith, c .before .before .before .put-line .ensures .1 .0)),
     )
 
 same-length : tie.Need-same-length Inv-loop μ-loop

@@ -1,10 +1,9 @@
 -- Each turn takes a digit away and counts it.
-use mathlib.Core.Path.{_≡_, sym, _∙_}
-use Prim.Native.Nat.{suc, _+_, _≤_}
+use mathlib.Core.Path.{_≡_}
+use Prim.Native.Nat.{_+_, _≤_}
 use native.Mathlib.Omega.{arith}
 use Rattle.listing.specs.Listing.{places}
 use Rattle.listing.proofs.Texts.{places-small, places-step}
-use borrow.Author.Needs.{needs}
 use Rattle.listing.proofs.text.places.Statement.{statement}
 use Rattle.listing.proofs.text.places.Tie as tie
 

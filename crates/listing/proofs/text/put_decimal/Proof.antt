@@ -29,7 +29,7 @@ returns c =
     let a = c .before .before .before .before .before .before .args in
     let e = c .before .before .before .before .places .ensures in
     let p : places (a .n) ≤ 10 = few (a .n) (omega arith) in
-    (worded (ap (λ (w : ℕ). spelled 10 w (a .n) ++ (a .end ∷ [])) e) (c .before .before .put-word .ensures .0), omega (arith, c .before .before .put-word .ensures .1))
+    (worded (ap (λ (w : ℕ). spelled 10 w (a .n) ++ (a .end ∷ [])) e) (c .before .before .put-word .ensures .0), (omega (arith, c .before .before .put-word .ensures .1), omega (arith, c .before .before .put-word .ensures .1)))
 
 pub put-decimal-spec : {M : Type 1} → statement M
 put-decimal-spec = tie.close (tie.spec places-requires put-word-requires same-length returns)
