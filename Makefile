@@ -13,11 +13,13 @@ ifeq ($(shell uname -m),x86_64)
 CC := gcc
 CXX := g++
 RUN :=
+LISTING := target/bin/listing
 PACKAGES := gcc g++
 else
 CC := x86_64-linux-gnu-gcc
 CXX := x86_64-linux-gnu-g++
 RUN := qemu-x86_64
+LISTING := qemu-x86_64 -L /usr/x86_64-linux-gnu target/bin/listing
 PACKAGES := gcc-x86-64-linux-gnu g++-x86-64-linux-gnu qemu-user
 endif
 CFLAGS := -std=gnu11 -O2 -Wall -Wextra -Werror -static -Iinclude
@@ -28,8 +30,8 @@ SEED ?= 1
 N ?= 100000
 
 list: tools
-	@rt check listing >target/listing.log || { cat target/listing.log; exit 1; }
-	@$(RUN) target/bin/listing <'$(FILE)'
+	@rt check listing >target/listing.log 2>&1 || { cat target/listing.log; exit 1; }
+	@$(LISTING) <'$(FILE)'
 
 # The last line is that of rt ci. What it proved is not proved again for the archive.
 test: tools
@@ -37,7 +39,8 @@ test: tools
 	@log=$$(mktemp); trap 'rm -f "$$log"' EXIT; rt ci | tee "$$log"; $(MAKE) checked; tail -n 1 "$$log"
 
 archive:
-	@rt staticlib tessarquin >target/archive.log || { cat target/archive.log; exit 1; }
+	@mkdir -p target
+	@rt staticlib tessarquin >target/archive.log 2>&1 || { cat target/archive.log; exit 1; }
 
 host: tools archive
 	@mkdir -p target/host
@@ -52,7 +55,7 @@ checked: host
 	@$(CC) $(CFLAGS) host/calls.c $(ARCHIVE) -o target/host/calls
 	@$(RUN) target/host/calls
 	@host/test '$(RUN)' target/host/trace crates/listing/stdin
-	@cargo test -q $(CARGO)
+	@cargo test -q --lib $(CARGO)
 	@$(MAKE) compare
 	@target/tests/release/slips
 	@target/tests/release/compare --cases 40000 --seed 1 -- $(RUN) target/tests/runner
