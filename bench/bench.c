@@ -184,10 +184,10 @@ static size_t touched(uint32_t (*work)(void))
 
 static void print_stacks(void)
 {
-    make(0, 2, 10, 10, 1);
+    make(0, 2, 10, 200, 1);
     size_t none = touched(nothing);
     printf("tessarquin_open %zu\n", touched(opened) - none);
-    points = 10;
+    points = 200;
     printf("tessarquin_point %zu\n", touched(one_point) - none);
     printf("tessarquin_fill %zu\n", touched(filled) - none);
     printf("tessarquin_cut %zu\n", touched(by_4) - none);
