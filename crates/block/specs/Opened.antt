@@ -9,12 +9,12 @@ use Rattle.rules.specs.Numbers.{numbers, startsFrom}
 use Rattle.rules.specs.Wave.{orderOf, segments, points, sparsing, firstPoint, twoLength, segmentIndex, subarrayCount, lengthsOf}
 use Rattle.rules.specs.Rules.{payloadStart, refusal, opened}
 use Rattle.rules.specs.Cut.{instead}
-use Rattle.descriptor.specs.declared.Counts.{Counts}
 use Rattle.descriptor.specs.declared.Patterns.{Patterns}
 use Rattle.descriptor.specs.Fields.{headBy}
 use Rattle.scale.specs.declared.Calibration.{Calibration}
 use Rattle.block.specs.declared.Layout.{Layout}
 use Rattle.block.specs.declared.Opened.{Opened}
+use Rattle.block.specs.declared.opening.Fields.{Fields}
 
 -- the ten lengths, and where each part starts in the payload
 abbrev pub layoutBy : List ℕ → Layout
@@ -74,13 +74,16 @@ answer (suc n) start h = refusedAs (suc n)
 unfoldable pub openedAs : List ℕ → Opened
 openedAs s = answer (refusal s) (payloadStart s) (opened s .head)
 
--- ---- as the code hands the numbers on: a descriptor with this order too, and one with these patterns
-
-abbrev pub headWith : ℕ → Counts → List ℕ → ℕ → ℕ
-headWith order c ls k = cond (eqb k 34) order (headBy c ls k)
+-- ---- as the code hands the numbers on: a descriptor with these patterns, and one with these order, counts and lengths
 
 abbrev pub patternHead : Patterns → ℕ → ℕ
 patternHead p k = instead ((156, p .gain) ∷ (160, p .offset) ∷ (176, p .interval) ∷ (180, p .horizontal) ∷ []) k 0
+
+abbrev pub headWith : Fields → ℕ → ℕ
+headWith x k = cond (eqb k 34) (x .order) (headBy (x .counts) (x .lengths) k)
+
+abbrev pub acceptedBy : ℕ → Fields → Opened
+acceptedBy start x = acceptedAs start (headWith x) (layoutBy (x .lengths)) (calibrationOf (patternHead (x .patterns)))
 
 -- the numbers of eight bytes of part k, where the layout has it
 abbrev pub tableAt : ℕ → ℕ → Layout → ℕ → List ℕ → List ℕ

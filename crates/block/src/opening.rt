@@ -6,13 +6,22 @@ use descriptor::Counts;
 use descriptor::Patterns;
 use scale::Calibration;
 ghost use mathlib.Core.Path.{_≡_};
-ghost use mathlib.Core.Bool.{true, cond};
-ghost use Prim.Native.Nat.{_<_};
+ghost use mathlib.Core.Bool.{cond};
+ghost use Prim.Native.Nat.{_+_, _≤_, _<_};
 ghost use lib.Dec.{eqb};
+ghost use lib.ListN.{length};
 ghost use Rattle.rules.specs.Numbers.{total};
-ghost use Rattle.rules.specs.Rules.{finite32, finite64};
-ghost use Rattle.block.specs.Opened.{openedAs, refusedAs, acceptedAs, layoutBy, calibrationOf, headWith, patternHead};
-ghost use Rattle.block.specs.Steps.{Framed, Described, Judged};
+ghost use Rattle.rules.specs.Rules.{refusal};
+ghost use Rattle.block.specs.Opened.{openedAs, refusedAs, acceptedBy, layoutBy, calibrationOf, patternHead};
+ghost use Rattle.block.specs.Steps.{Framed, fieldsAt, Finite};
+
+// The numbers of a descriptor that the rules judge and an answer holds.
+struct Fields {
+    order: u32,
+    counts: Counts,
+    lengths: [u32; 10],
+    patterns: Patterns,
+}
 
 // A block's answer: the number of the first rule that it breaks, or 0 and what its descriptor says.
 pub fn open(block: &[u8]) -> Opened
@@ -26,62 +35,57 @@ pub fn open(block: &[u8]) -> Opened
     if !frames::is_sized(block, start, length) {
         return refused(2);
     }
-    described(block, start, length)
+    let fields = fields_of(block, start);
+    let number = number_of(block, start, length, fields);
+    if number != 0 {
+        return refused(number);
+    }
+    accepted(start, fields)
 }
 
-// The answer from rule 3 on.
-fn described(block: &[u8], start: usize, length: u64) -> Opened
-    requires { ⌜ Framed (now block) start length ⌝ }
-    ensures { λ r. ⌜ r ≡ openedAs (now (block .entry)) ⌝ }
+// The numbers of the descriptor that stands from `start`, each read once, in the order that byte 34 gives.
+fn fields_of(block: &[u8], start: usize) -> Fields
+    requires { ⌜ start + 346 ≤ length (now block) ⌝ }
+    ensures { λ r. ⌜ r ≡ fieldsAt start (now (block .entry)) ⌝ }
 {
-    if !descriptor::is_named(block, start) {
-        return refused(3);
-    }
     let order = block[start + 34] as u32;
-    let counts = descriptor::counts_of(block, start, order);
-    if !descriptor::is_formed(block, start, counts) {
-        return refused(4);
+    Fields {
+        order,
+        counts: descriptor::counts_of(block, start, order),
+        lengths: descriptor::lengths_of(block, start, order),
+        patterns: descriptor::patterns_of(block, start, order),
     }
-    judged(block, start, length, order, counts)
 }
 
-// The answer from rule 5 on.
-fn judged(block: &[u8], start: usize, length: u64, order: u32, counts: Counts) -> Opened
-    requires { ⌜ Described (now block) start length order counts ⌝ }
-    ensures { λ r. ⌜ r ≡ openedAs (now (block .entry)) ⌝ }
+// The number of a block that keeps rules 1 and 2: of the first rule from 3 on that it breaks, or 0.
+fn number_of(block: &[u8], start: usize, length: u64, fields: Fields) -> u32
+    requires { ⌜ Framed (now block) start length ⌝ }
+    requires { ⌜ fields ≡ fieldsAt start (now block) ⌝ }
+    ensures { λ r. ⌜ r ≡ refusal (now (block .entry)) ⌝ }
 {
-    let lengths = descriptor::lengths_of(block, start, order);
+    let counts = fields.counts;
+    let lengths = fields.lengths;
+    let patterns = fields.patterns;
+    if !descriptor::is_named(block, start) {
+        return 3;
+    }
+    if !descriptor::is_formed(block, start, counts) {
+        return 4;
+    }
     if !descriptor::is_tiled(lengths, length) {
-        return refused(5);
+        return 5;
     }
     if !descriptor::is_counted(counts, lengths) {
-        return refused(6);
+        return 6;
     }
     if !descriptor::is_placed(counts) {
-        return refused(7);
+        return 7;
     }
-    measured(block, start, length, order, counts, lengths)
-}
-
-// The answer from rule 8 on.
-fn measured(
-    block: &[u8],
-    start: usize,
-    length: u64,
-    order: u32,
-    counts: Counts,
-    lengths: [u32; 10],
-) -> Opened
-    requires { ⌜ Judged (now block) start length order counts lengths ⌝ }
-    ensures { λ r. ⌜ r ≡ openedAs (now (block .entry)) ⌝ }
-{
     let layout = layout_of(lengths);
-    let patterns = descriptor::patterns_of(block, start, order);
-    if !tables::is_measured(block, start, order, patterns, layout) {
-        return refused(8);
+    if !tables::is_measured(block, start, fields.order, patterns, layout) {
+        return 8;
     }
-    let calibration = calibration_of(patterns);
-    accepted(start, order, counts, layout, calibration)
+    0
 }
 
 // The lengths with their starts, each where the one before it ends.
@@ -101,36 +105,21 @@ fn layout_of(lengths: [u32; 10]) -> Layout
     Layout { lengths, starts }
 }
 
-// The calibration of finite patterns.
-fn calibration_of(patterns: Patterns) -> Calibration
-    requires { ⌜ (finite32 (patterns .gain) ≡ true) × (finite32 (patterns .offset) ≡ true) × (finite32 (patterns .interval) ≡ true) × (finite64 (patterns .horizontal) ≡ true) ⌝ }
-    ensures { λ r. ⌜ r ≡ calibrationOf (patternHead patterns) ⌝ }
-{
-    Calibration {
-        gain: numbers::single(patterns.gain),
-        offset: numbers::single(patterns.offset),
-        interval: numbers::single(patterns.interval),
-        horizontal: numbers::double(patterns.horizontal),
-    }
-}
-
 // The answer of an accepted block.
-fn accepted(
-    start: usize,
-    order: u32,
-    counts: Counts,
-    layout: Layout,
-    calibration: Calibration,
-) -> Opened
-    ensures { λ r. ⌜ r ≡ acceptedAs start (headWith order counts (layout .lengths)) layout calibration ⌝ }
+fn accepted(start: usize, fields: Fields) -> Opened
+    requires { ⌜ total (fields .lengths) < 4294967296 ⌝ }
+    requires { ⌜ Finite (fields .patterns) ⌝ }
+    ensures { λ r. ⌜ r ≡ acceptedBy start fields ⌝ }
 {
-    let lengths = layout.lengths;
+    let counts = fields.counts;
+    let lengths = fields.lengths;
+    let patterns = fields.patterns;
     let two = lengths[7];
     let g = numbers::at_least_one(counts.subarrays);
     Opened {
         refusal: 0,
         start,
-        order,
+        order: fields.order,
         kind: counts.kind,
         segments: g,
         points: counts.count / g,
@@ -139,8 +128,8 @@ fn accepted(
         sparsing: numbers::at_least_one(counts.sparsing),
         index: counts.index,
         subarrays: counts.subarrays,
-        layout,
-        calibration,
+        layout: layout_of(lengths),
+        calibration: calibration_of(patterns),
     }
 }
 
@@ -149,6 +138,19 @@ fn arrays_of(two: u32) -> u32
     ensures { λ r. ⌜ r ≡ cond (eqb two 0) 1 2 ⌝ }
 {
     if two == 0 { 1 } else { 2 }
+}
+
+// The calibration of finite patterns.
+fn calibration_of(patterns: Patterns) -> Calibration
+    requires { ⌜ Finite patterns ⌝ }
+    ensures { λ r. ⌜ r ≡ calibrationOf (patternHead patterns) ⌝ }
+{
+    Calibration {
+        gain: numbers::single(patterns.gain),
+        offset: numbers::single(patterns.offset),
+        interval: numbers::single(patterns.interval),
+        horizontal: numbers::double(patterns.horizontal),
+    }
 }
 
 // The answer of a refused block: its number and zeros.
