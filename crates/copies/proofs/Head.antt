@@ -1,20 +1,21 @@
--- The descriptor and the tables copied: `run-again` moves a copy on by a run of the template, and `laid-turned` and `numbers-items` say what a copy is.
+-- The descriptor and the tables copied: `run-next` moves a copy on by a run of the template, `turn-step` by a number, and `laid-turned` and `numbers-items` say what a copy is.
 use mathlib.Core.Path.{_≡_, refl, sym, ap, ap₂, _∙_}
-use mathlib.Core.Bool.{Bool, true}
-use mathlib.Core.List.{List, [], _∷_, _++_, map, flatten, reverse-reverse, append-assoc, append-nil}
-use Prim.Native.Nat.{ℕ, zero, suc, _+_, _*_, _≤_, _<_}
-use native.Mathlib.Nat.{suc-mul}
+use mathlib.Core.Bool.{Bool, true, false}
+use mathlib.Core.List.{List, [], _∷_, _++_, flatten, reverse-reverse, append-assoc, append-nil}
+use Prim.Native.Nat.{ℕ, zero, suc, _+_, _*_, _≤_}
+use native.Mathlib.Nat.{suc-mul, add-mul, one-mul}
 use native.Mathlib.Numerals.{add-one}
 use native.Mathlib.Omega.{arith}
 use lib.Dec.{eqb}
-use lib.ListN.{length, take, drop, getD, replicate, length-append, length-drop, take-append-drop, replicate-append-replicate, List·getD-map}
-use lib.Seq.{drop-drop, length-take-le, take-append-le, drop-append-le, take-at, drop-at, take-add, take-suc}
+use lib.ListN.{length, take, drop, replicate, length-append, length-drop, take-append-drop, replicate-append-replicate}
+use lib.Seq.{drop-drop, length-take-le, take-append-le, drop-append-le, take-at, drop-at, take-add}
 use Rattle.rules.specs.Numbers.{Below, splice, total, digits, number, bytes, numbers, allBytes, pieces}
-use Rattle.rules.specs.Template.{fieldRuns, widths, template, fields, laid}
+use Rattle.rules.specs.Template.{fields, laid}
 use Rattle.rules.proofs.Numbers.{below-take, below-drop, length-bytes, bytes-number, laid-fields, total-replicate}
-use Rattle.rules.proofs.Template.{Above, total-template}
+use Rattle.rules.proofs.Template.{Above}
 use Rattle.copies.specs.Copies.{inOrder, part, items, turnedPieces, header}
-use Rattle.copies.proofs.Laws.{then, length-part, length-inOrder}
+use Rattle.copies.proofs.Laws.{then, gather-step, length-part, length-inOrder, length-turned}
+use Rattle.copies.proofs.Items.{rows-room}
 
 -- ---- pieces turned round
 
@@ -63,46 +64,26 @@ unfolding turnedPieces pieces flatten
 turned-plain [] l = refl
 turned-plain (w ∷ ws) l = ap (λ (r : List ℕ). take w l ++ r) (turned-plain ws (drop w l)) ∙ sym (take-add w (total ws) l)
 
--- ---- a turn of the loop over the runs
+-- ---- pieces written one after the other
 
--- the widths of the fields of the first i runs
-abbrev pub spread : ℕ → List ℕ
-spread i = widths (take i fieldRuns)
+module _ (same : Bool) (l out : List ℕ) (from at : ℕ) where
+  -- pieces, and right behind them the next ones
+  pub pieces-next : (ws vs : List ℕ) {now next : List ℕ} (k : ℕ) → total ws ≡ k → from + k ≤ length l → at + k ≤ length out
+      → now ≡ splice out at (turnedPieces same ws (drop from l)) → next ≡ splice now (at + k) (turnedPieces same vs (drop (from + k) l)) → next ≡ splice out at (turnedPieces same (ws ++ vs) (drop from l))
+  pieces-next ws vs k e hl ho en ex =
+      let behind : drop (from + k) l ≡ drop (total ws) (drop from l) = sym (drop-drop k from l) ∙ ap (λ (j : ℕ). drop j (drop from l)) (sym e) in
+      ex
+      ∙ ap (λ (r : List ℕ). splice r (at + k) (turnedPieces same vs (drop (from + k) l))) en
+      ∙ then out at k (turnedPieces same ws (drop from l)) (turnedPieces same vs (drop (from + k) l)) (length-turnedPieces same ws (drop from l) (omega (arith, length-drop from l)) ∙ e) ho
+      ∙ ap (splice out at) (ap (λ (r : List ℕ). turnedPieces same ws (drop from l) ++ turnedPieces same vs r) behind ∙ sym (turned-append same ws vs (drop from l)))
 
-widths-append : (rs ts : List (ℕ × ℕ × ℕ)) → widths (rs ++ ts) ≡ widths rs ++ widths ts
-widths-append [] ts = refl
-widths-append (r ∷ rs) ts = ap (λ (l : List ℕ). replicate (r .1) (r .2) ++ l) (widths-append rs ts) ∙ sym (append-assoc (replicate (r .1) (r .2)) (widths rs) (widths ts))
+  -- a first run of items of one width, and one behind other pieces
+  pub run-first : {next : List ℕ} (w n : ℕ) → next ≡ splice out at (items same l from w w n) → next ≡ splice out at (turnedPieces same (replicate n w) (drop from l))
+  run-first w n ex = ex ∙ ap (splice out at) (sym (turned-items same w n from l))
 
-total-append : (ws vs : List ℕ) → total (ws ++ vs) ≡ total ws + total vs
-total-append [] vs = omega arith
-total-append (w ∷ ws) vs = omega (arith, total-append ws vs)
-
-module _ (i n w k : ℕ) (h : i < 27) (en : n ≡ getD (map (λ (t : ℕ × ℕ × ℕ). t .1) fieldRuns) i 0) (ew : w ≡ getD (map (λ (t : ℕ × ℕ × ℕ). t .2) fieldRuns) i 0) (ek : k ≡ total (spread i)) where
-  spread-next : spread (i + 1) ≡ spread i ++ replicate n w
-  spread-next =
-      let r : ℕ × ℕ × ℕ = getD fieldRuns i (0, 0, 0) in
-      let c : n ≡ r .1 = en ∙ List·getD-map (λ (t : ℕ × ℕ × ℕ). t .1) fieldRuns i (0, 0, 0) in
-      let d : w ≡ r .2 = ew ∙ List·getD-map (λ (t : ℕ × ℕ × ℕ). t .2) fieldRuns i (0, 0, 0) in
-      ap spread (add-one i) ∙ ap widths (take-suc fieldRuns i (0, 0, 0) h) ∙ widths-append (take i fieldRuns) (r ∷ [])
-      ∙ ap (λ (l : List ℕ). spread i ++ l) (append-nil (replicate (r .1) (r .2)) ∙ ap₂ {C = List ℕ} replicate (sym c) (sym d))
-
-  pub run-next : k + n * w ≡ total (spread (i + 1))
-  run-next = omega (arith, ap total spread-next, total-append (spread i) (replicate n w), total-replicate n w)
-
-  pub run-room : k + n * w ≤ 346
-  run-room =
-      let e : total (widths (take (i + 1) fieldRuns ++ drop (i + 1) fieldRuns)) ≡ 346 = rw take-append-drop (unfold template in total-template) in
-      omega (arith, run-next, ap total (widths-append (take (i + 1) fieldRuns) (drop (i + 1) fieldRuns)), total-append (spread (i + 1)) (widths (drop (i + 1) fieldRuns)))
-
-  -- the copy of the first i runs and, right behind it, that of the next
-  pub run-again : (same : Bool) (l out : List ℕ) (from at : ℕ) → from + 346 ≤ length l → at + 346 ≤ length out
-      → splice (splice out at (turnedPieces same (spread i) (drop from l))) (at + k) (items same l (from + k) w w n) ≡ splice out at (turnedPieces same (spread (i + 1)) (drop from l))
-  run-again same l out from at hl ho =
-      let b : k + n * w ≤ 346 = run-room in
-      let e : items same l (from + k) w w n ≡ turnedPieces same (replicate n w) (drop (total (spread i)) (drop from l)) =
-      sym (turned-items same w n (from + k) l) ∙ ap (turnedPieces same (replicate n w)) (sym (drop-drop k from l) ∙ ap (λ (j : ℕ). drop j (drop from l)) ek) in
-      then out at k (turnedPieces same (spread i) (drop from l)) (items same l (from + k) w w n) (length-turnedPieces same (spread i) (drop from l) (omega (arith, length-drop from l)) ∙ sym ek) (omega arith)
-      ∙ ap (splice out at) (ap (λ (r : List ℕ). turnedPieces same (spread i) (drop from l) ++ r) e ∙ sym (turned-append same (spread i) (replicate n w) (drop from l)) ∙ ap (λ (ws : List ℕ). turnedPieces same ws (drop from l)) (sym spread-next))
+  pub run-next : (ws : List ℕ) {now next : List ℕ} (k w n : ℕ) → total ws ≡ k → from + k ≤ length l → at + k ≤ length out
+      → now ≡ splice out at (turnedPieces same ws (drop from l)) → next ≡ splice now (at + k) (items same l (from + k) w w n) → next ≡ splice out at (turnedPieces same (ws ++ replicate n w) (drop from l))
+  run-next ws {now = now} k w n e hl ho en ex = pieces-next ws (replicate n w) k e hl ho en (ex ∙ ap (splice now (at + k)) (sym (turned-items same w n (from + k) l)))
 
 -- ---- what the copy is
 
@@ -134,6 +115,14 @@ laid-turned o q ws bs ho hq a b h =
 pub number-turned : (o q w : ℕ) (l : List ℕ) → o ≤ 1 → q ≤ 1 → Below 256 l → length l ≡ w → bytes q w (number o l) ≡ inOrder (eqb o q) l
 number-turned o q w l ho hq b e =
     bytes-turned o q w (number o l) ho hq ∙ ap (inOrder (eqb o q)) (ap (λ (n : ℕ). bytes o n (number o l)) (sym e) ∙ bytes-number o l b)
+
+-- a turn of a loop that reads a number low byte first and stores it high byte first
+pub turn-step : (l : List ℕ) → Below 256 l → (from w i : ℕ) (out : List ℕ) (at : ℕ) → from + (i + 1) * w ≤ length l → at + i * w ≤ length out
+    → splice (splice out at (items false l from w w i)) (at + i * w) (bytes 0 w (number 1 (part l (from + i * w) w))) ≡ splice out at (items false l from w w (i + 1))
+turn-step l b from w i out at hl ho =
+    let here : from + i * w + w ≤ length l = omega (arith, add-mul i 1 w, one-mul w) in
+    ap (splice (splice out at (items false l from w w i)) (at + i * w)) (number-turned 1 0 w (part l (from + i * w) w) (omega arith) (omega arith) (below-take 256 w (drop (from + i * w) l) (below-drop 256 (from + i * w) l b)) (length-part l (from + i * w) w here))
+    ∙ gather-step (λ k. inOrder false (part l (from + k * w) w)) w i (λ k h. length-turned false l (from + k * w) w (omega (arith, rows-room k i w h))) out at ho
 
 numbers-turned : (o q w n : ℕ) (bs : List ℕ) → o ≤ 1 → q ≤ 1 → Below 256 bs → n * w ≤ length bs → allBytes q w (numbers o w n bs) ≡ turnedPieces (eqb o q) (replicate n w) bs
 unfolding turnedPieces pieces flatten

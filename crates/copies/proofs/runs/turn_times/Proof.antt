@@ -1,0 +1,45 @@
+-- Each run follows the one before (`run-next`).
+use mathlib.Core.Path.{refl}
+use mathlib.Core.Logic.{inl, inr}
+use mathlib.Core.Bool.{false}
+use native.Mathlib.Omega.{arith}
+use Rattle.copies.specs.Copies.{runWidths}
+use Rattle.copies.proofs.Head.{run-first, run-next}
+use borrow.Author.Needs.{needs}
+use Rattle.copies.proofs.runs.turn_times.Statement.{statement}
+use Rattle.copies.proofs.runs.turn_times.Tie as tie
+
+returns : tie.Need-returns
+returns c =
+    let r5 = c .before .before in
+    let r4 = r5 .before .before .before .before in
+    let r3 = r4 .before .before .before .before in
+    let r2 = r3 .before .before .before .before in
+    let r1 = r2 .before .before .before .before in
+    let start = r1 .before .before .before .before in
+    let a = start .args in
+    let e1 = run-first false (a .src .now) (a .out .now) (a .from) (a .at) 8 1 (r1 .turn-items .ensures) in
+    let e2 = run-next false (a .src .now) (a .out .now) (a .from) (a .at) (runWidths 18 1) 8 1 4 refl (omega (arith, start .pre .0)) (omega (arith, start .pre .1)) e1 (r2 .turn-items2 .ensures) in
+    let e3 = run-next false (a .src .now) (a .out .now) (a .from) (a .at) (runWidths 18 2) 12 2 2 refl (omega (arith, start .pre .0)) (omega (arith, start .pre .1)) e2 (r3 .turn-items3 .ensures) in
+    let e4 = run-next false (a .src .now) (a .out .now) (a .from) (a .at) (runWidths 18 3) 16 4 1 refl (omega (arith, start .pre .0)) (omega (arith, start .pre .1)) e3 (r4 .turn-items4 .ensures) in
+    run-next false (a .src .now) (a .out .now) (a .from) (a .at) (runWidths 18 4) 20 2 6 refl (omega (arith, start .pre .0)) (omega (arith, start .pre .1)) e4 (r5 .turn-items5 .ensures)
+
+pub turn-times-spec : {M : Type 1} → statement M
+turn-times-spec =
+    tie.close
+    (tie.spec
+    (λ c κs. (inr (inr (inr refl)), (search needs, search needs)))
+    (λ c. search needs)
+    (λ c. search needs)
+    (λ c κs. (inl refl, (search needs, search needs)))
+    (λ c. search needs)
+    (λ c. search needs)
+    (λ c κs. (inr (inl refl), (search needs, search needs)))
+    (λ c. search needs)
+    (λ c. search needs)
+    (λ c κs. (inr (inr (inl refl)), (search needs, search needs)))
+    (λ c. search needs)
+    (λ c. search needs)
+    (λ c κs. (inr (inl refl), (search needs, search needs)))
+    (λ c. search needs)
+    returns)
