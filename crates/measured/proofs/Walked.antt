@@ -1,0 +1,114 @@
+-- A fill by the walk: its number is the walk's, then 13 (`number-refused`, `number-short`, `number-none`); a step hands out the next value (`handed`) until all are out (`stopped`).
+use mathlib.Core.Path.{_≡_, refl, sym, ap, _∙_}
+use mathlib.Core.Bool.{Bool, cond, _&&_, true}
+use mathlib.Core.List.{List, [], _∷_, _++_, append-assoc}
+use mathlib.Core.Logic.{⊎-elim}
+use Prim.Native.Nat.{ℕ, zero, suc, _≤_, _<_}
+use native.Mathlib.Nat.{eq-or-lt-of-le}
+use native.Mathlib.Omega.{arith}
+use lib.Dec.{leb}
+use lib.Ieee.{Float}
+use borrow.Author.Tests.{le-leb, lt-leb}
+use Rattle.rules.specs.Numbers.{Bytes}
+use Rattle.rules.specs.Wave.{points}
+use Rattle.rules.specs.Rules.{first, rules, opened}
+use Rattle.rules.specs.Points.{value, segmentRules, walkRefusal, fillRefusal}
+use Rattle.rules.specs.Cut.{orElse}
+use Rattle.rules.proofs.Tests.{numbered-append, first-append}
+use Rattle.rules.proofs.Opened.{rules-numbered}
+use Rattle.points.specs.declared.answers.Point as answers
+use Rattle.points.specs.declared.walk.Place.{Place}
+use Rattle.points.specs.declared.walk.Step.{Step}
+use Rattle.points.specs.declared.walk.Step.the-variants.{Point, Done}
+use Rattle.points.specs.Points.{filledBy, filledAs, pointAs}
+use Rattle.points.specs.Walks.{acceptedPlace, startBy, placeOf, stepAt, placeAfter}
+use Rattle.points.proofs.Refusals.{walk-points}
+use Rattle.points.proofs.Bounds.{point-answer}
+use Rattle.points.proofs.Walking.{begins, walk-steps, walk-ends}
+
+-- the number in a fill's answer
+pub filled-number : (s : List ℕ) (a n room : ℕ) → filledAs s a n room .refusal ≡ fillRefusal s a n room
+unfolding filledAs
+filled-number s a n room = go (fillRefusal s a n room)
+  where
+    go : (m : ℕ) → filledBy m (points (opened s .head)) .refusal ≡ m
+    go zero = refl
+    go (suc m) = refl
+
+module _ (s : List ℕ) (a n : ℕ) where
+  abbrev M : ℕ
+  M = points (opened s .head)
+
+  -- ---- the number
+
+  -- the walk's, then 13
+  by-walk : (room : ℕ) → fillRefusal s a n room ≡ orElse (walkRefusal s a n) (cond (leb M room && true) 0 13)
+  unfolding fillRefusal walkRefusal segmentRules
+  by-walk room =
+      let own : List (ℕ × List Bool) = segmentRules a n (opened s .head) in
+      let last : List (ℕ × List Bool) = (13, leb M room ∷ []) ∷ [] in
+      ap first (sym (append-assoc (rules s) own last)) ∙ first-append (rules s ++ own) last (numbered-append (rules s) own (rules-numbered s) (omega arith))
+
+  -- a place's number is the walk's
+  place-number : placeOf s a n .refusal ≡ walkRefusal s a n
+  unfolding placeOf
+  place-number = go (walkRefusal s a n)
+    where
+      go : (m : ℕ) → startBy m (acceptedPlace s a n 0) .refusal ≡ m
+      go zero = refl
+      go (suc m) = refl
+
+  module _ (p : Place) (e : p ≡ placeOf s a n) where
+    number-is : p .refusal ≡ walkRefusal s a n
+    number-is = ap (λ (x : Place). x .refusal) e ∙ place-number
+
+    pub number-refused : (room : ℕ) → (p .refusal ≡ 0 → ⊥) → p .refusal ≡ fillRefusal s a n room
+    number-refused room h = go (p .refusal) h ∙ ap (λ (m : ℕ). orElse m (cond (leb M room && true) 0 13)) number-is ∙ sym (by-walk room)
+      where
+        go : (m : ℕ) → (m ≡ 0 → ⊥) → m ≡ orElse m (cond (leb M room && true) 0 13)
+        go zero h = absurd (h refl)
+        go (suc m) h = refl
+
+    pub walks : p .refusal ≡ 0 → walkRefusal s a n ≡ 0
+    walks z = sym number-is ∙ z
+
+    module _ (z : walkRefusal s a n ≡ 0) where
+      pub points-are : p .points ≡ M
+      points-are = ap (λ (x : Place). x .points) (e ∙ begins s a n z)
+
+      last : (room : ℕ) (t : Bool) → leb M room ≡ t → cond (t && true) 0 13 ≡ fillRefusal s a n room
+      last room t q = sym (by-walk room ∙ ap (λ (m : ℕ). orElse m (cond (leb M room && true) 0 13)) z ∙ ap (λ (x : Bool). cond (x && true) 0 13) q)
+
+      pub number-short : (room : ℕ) → room < p .points → 13 ≡ fillRefusal s a n room
+      number-short room h = last room _ (lt-leb M room (omega (arith, points-are)))
+
+      pub number-none : (room : ℕ) → p .points ≤ room → 0 ≡ fillRefusal s a n room
+      number-none room h = last room _ (le-leb M room (omega (arith, points-are)))
+
+  -- ---- a step after the first k
+
+  module _ (b : Bytes s) (e : walkRefusal s a n ≡ 0) (k : ℕ) (h : k ≤ M) (p : Place) (ep : p ≡ placeAfter s a n k) (r : Step) (er : r ≡ stepAt s p) where
+    before-end : k < M → r ≡ Point (value (opened s) a n k) (pointAs s a n k .time)
+    before-end l =
+        er ∙ ap (stepAt s) ep ∙ walk-steps s a n e b k l
+        ∙ ap (λ (v : Float). Point v (pointAs s a n k .time)) (ap (λ (x : answers.Point). x .value) (point-answer s a n k (walk-points s a n e k l)))
+
+    at-end : k ≡ M → r ≡ Done
+    at-end q = er ∙ ap (stepAt s) ep ∙ walk-ends s a n e k (omega arith) .0
+
+    -- a point is the next, and its value is the next value
+    pub handed : (v t : Float) → r ≡ Point v t → (k < M) × (v ≡ value (opened s) a n k)
+    handed v t x = ⊎-elim (λ (q : k ≡ M). absurd (differ (at-end q))) (λ (l : k < M). (l, alike (before-end l))) (eq-or-lt-of-le h)
+      where
+        differ : r ≡ Done → ⊥
+        differ y = let z : _≡_ {A = ℕ} 0 1 = cc in omega arith
+
+        alike : r ≡ Point (value (opened s) a n k) (pointAs s a n k .time) → v ≡ value (opened s) a n k
+        alike y = cc
+
+    -- and after it is done no value is left
+    pub stopped : r ≡ Done → k ≡ M
+    stopped x = ⊎-elim (λ (q : k ≡ M). q) (λ (l : k < M). absurd (differ (before-end l))) (eq-or-lt-of-le h)
+      where
+        differ : r ≡ Point (value (opened s) a n k) (pointAs s a n k .time) → ⊥
+        differ y = let z : _≡_ {A = ℕ} 0 1 = cc in omega arith
