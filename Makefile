@@ -6,7 +6,7 @@
 SHELL := /bin/bash
 .SHELLFLAGS := -eu -o pipefail -c
 MAKEFLAGS += --no-print-directory
-.PHONY: list test archive host checked compare soak bench fmt tools
+.PHONY: list test archive host checked compare soak measured bench fmt tools
 
 # The compiled code is for x86-64: elsewhere it is linked by a cross compiler and run by an emulator.
 ifeq ($(shell uname -m),x86_64)
@@ -24,6 +24,7 @@ PACKAGES := gcc-x86-64-linux-gnu g++-x86-64-linux-gnu qemu-user
 endif
 CFLAGS := -std=gnu11 -O2 -Wall -Wextra -Werror -static -Iinclude
 ARCHIVE := target/staticlib/libtessarquin.a
+MEASURED := target/staticlib/libmeasured.a
 FILE ?= crates/listing/stdin
 CARGO := --release --offline --locked --manifest-path tests/Cargo.toml --target-dir target/tests
 SEED ?= 1
@@ -68,13 +69,17 @@ compare: tools archive
 soak: compare
 	@target/tests/release/compare --cases $(N) --seed $(SEED) -- $(RUN) target/tests/runner
 
+# Two calls that are only counted.
+measured:
+	@rt staticlib measured >target/measured.log || { cat target/measured.log; exit 1; }
+
 # Counted by the emulator on every machine; where the machine is x86-64, times stand beside the counts.
-bench: tools archive
+bench: tools archive measured
 	@command -v qemu-x86_64 >/dev/null || { apt-get update -q && apt-get install -qy qemu-user; } >target/packages.log 2>&1
 	@mkdir -p target/bench
 	@gcc -O2 -Wall -Wextra -Werror -fPIC -shared bench/count.c -o target/bench/count.so
 	@$(CC) -std=gnu11 -O3 -Wall -Wextra -Werror -c bench/same.c -o target/bench/same.o
-	@$(CC) $(CFLAGS) bench/bench.c target/bench/same.o $(ARCHIVE) -o target/bench/bench
+	@$(CC) $(CFLAGS) bench/bench.c target/bench/same.o $(ARCHIVE) $(MEASURED) -o target/bench/bench
 	@bench/run target/bench/bench target/bench/count.so $(if $(RUN),no,yes)
 
 fmt:

@@ -10,7 +10,15 @@
 #include <time.h>
 #include <ucontext.h>
 
+/*
+ * For counting only: the values of a segment as floats, by the fill, and by the walk, point by point. The walk's times
+ * are not stored, so the compiler leaves them out.
+ */
+uint32_t measured_fill(const uint8_t *block, size_t length, uint32_t array, uint32_t segment, double *out, size_t room);
+uint32_t measured_walk(const uint8_t *block, size_t length, uint32_t array, uint32_t segment, double *out, size_t room);
+
 static uint8_t *block, *out;
+static double *values;
 static size_t length, samples, points;
 static uint8_t answer[40];
 static const float gain = 0.5f, offset = 0.25f;
@@ -42,7 +50,8 @@ static void make(int asked_order, size_t width, size_t segments, size_t in_each,
     samples = 11 + 346 + trig;
     block = calloc(length + 1, 1);
     out = malloc(length + 8 * points + 64);
-    if (!block || !out)
+    values = malloc(points * sizeof *values);
+    if (!block || !out || !values)
         exit(2);
     snprintf((char *)block, 12, "#9%09zu", payload);
     memcpy(block + 11, "WAVEDESC", 9);
@@ -67,6 +76,8 @@ static uint32_t opened(void) { return tessarquin_open(block, length, answer, siz
 static uint32_t one_point(void) { return tessarquin_point(block, length, 1, 1, (uint32_t)(points - 1), answer, sizeof answer); }
 static uint32_t last_segment(void) { return tessarquin_point(block, length, 1, (uint32_t)points, 0, answer, sizeof answer); }
 static uint32_t filled(void) { return tessarquin_fill(block, length, 1, 1, out, 8 * points); }
+static uint32_t filled_floats(void) { return measured_fill(block, length, 1, 1, values, points); }
+static uint32_t walked_floats(void) { return measured_walk(block, length, 1, 1, values, points); }
 
 static uint32_t cut_by(uint32_t sp, uint32_t to)
 {
@@ -82,6 +93,9 @@ static uint32_t by_100(void) { return cut_by(100, 1); }
 static uint32_t c_bytes(void) { same_fill_bytes(block + samples, points, gain, offset, out); return 0; }
 static uint32_t c_words_low(void) { same_fill_words_low(block + samples, points, gain, offset, out); return 0; }
 static uint32_t c_words_high(void) { same_fill_words_high(block + samples, points, gain, offset, out); return 0; }
+static uint32_t c_float_bytes(void) { same_values_bytes(block + samples, points, gain, offset, values); return 0; }
+static uint32_t c_float_words_low(void) { same_values_words_low(block + samples, points, gain, offset, values); return 0; }
+static uint32_t c_float_words_high(void) { same_values_words_high(block + samples, points, gain, offset, values); return 0; }
 static uint32_t c_copied(void) { same_copy(block, length, out); return 0; }
 static uint32_t c_turned(void) { same_turn(block + samples, points, 1, out); return 0; }
 static uint32_t c_by_4(void) { same_keep(block + samples, points, 4, out); return 0; }
@@ -103,6 +117,10 @@ static const struct work {
     {"fill-word-low", 1, 2, 0, filled, c_words_low},
     {"fill-word-high", 0, 2, 0, filled, c_words_high},
     {"fill-byte", 1, 1, 0, filled, c_bytes},
+    {"floats-word-low", 1, 2, 0, filled_floats, c_float_words_low},
+    {"floats-word-high", 0, 2, 0, filled_floats, c_float_words_high},
+    {"floats-byte", 1, 1, 0, filled_floats, c_float_bytes},
+    {"walk-word-low", 1, 2, 0, walked_floats, c_float_words_low},
     {"cut-copy-word", 1, 2, 0, copied, c_copied},
     {"cut-copy-byte", 1, 1, 0, copied, c_copied},
     {"cut-turn", 1, 2, 0, turned, c_turned},
