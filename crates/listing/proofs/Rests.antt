@@ -23,9 +23,9 @@ use Rattle.block.proofs.Answers.{number-is, accepted-as}
 use Rattle.points.specs.declared.walk.Place.{Place}
 use Rattle.points.specs.declared.walk.Step.{Step}
 use Rattle.points.specs.declared.walk.Step.the-variants.{Point, Done}
-use Rattle.points.specs.Walks.{startBy, acceptedPlace, placeOf, movedTo, afterOf, stepAt}
-use Rattle.points.proofs.Refusals.{walk-points, walk-none, walk-block}
-use Rattle.points.proofs.Walking.{step-point}
+use Rattle.points.specs.Walks.{acceptedPlace, placeOf, movedTo, afterOf, stepAt}
+use Rattle.points.proofs.Refusals.{walk-points, walk-none, walk-accepts}
+use Rattle.points.proofs.Walking.{step-point, place-number, begins}
 use Rattle.listing.specs.Listing.{decimal, hex, line, firstLine, refusedLine, tooLong, pointLine, segmentLines, listingBy, listing}
 use Rattle.listing.specs.Pages.{frontBy, front, spotAt, Stands, linesFrom, restBy, rest, Paged}
 use Rattle.listing.specs.declared.pages.Spot.{Spot}
@@ -135,46 +135,25 @@ module _ (s : List ℕ) (b : Bytes s) where
   walked : (n : ℕ) → refusal s ≡ 0 → 1 ≤ n → n ≤ g → walkRefusal s 1 n ≡ 0
   walked n z p q = walk-none s 1 n 0 (says-point s 1 n 0 z (record { array = inl refl; from-one = p; segment = q; point = shape-opened s b z .some }))
 
-  accepted : (n : ℕ) → walkRefusal s 1 n ≡ 0 → refusal s ≡ 0
-  accepted n e = go (refusal s) refl
-    where
-      go : (r : ℕ) → refusal s ≡ r → refusal s ≡ 0
-      go zero q = q
-      go (suc r) q =
-          let i = number-is s (openedAs s) refl in
-          let t : openedAs s .refusal ≡ walkRefusal s 1 n = walk-block s 1 n (openedAs s) refl (λ z. omega arith) in absurd (omega arith)
-
   asked : (n : ℕ) → walkRefusal s 1 n ≡ 0 → Asked 1 n 0 (opened s .head)
-  asked n e = point-says s 1 n 0 (walk-points s 1 n e 0 (shape-opened s b (accepted n e) .some)) .1
+  asked n e = point-says s 1 n 0 (walk-points s 1 n e 0 (shape-opened s b (walk-accepts s 1 n e) .some)) .1
 
   -- ---- the spot at a segment's start
-
-  number : (n : ℕ) → placeOf s 1 n .refusal ≡ walkRefusal s 1 n
-  unfolding placeOf
-  number n = go (walkRefusal s 1 n)
-    where
-      go : (m : ℕ) → startBy m (acceptedPlace s 1 n 0) .refusal ≡ m
-      go zero = refl
-      go (suc m) = refl
-
-  begins : (n : ℕ) → walkRefusal s 1 n ≡ 0 → placeOf s 1 n ≡ acceptedPlace s 1 n 0
-  unfolding placeOf
-  begins n e = ap (λ (m : ℕ). startBy m (acceptedPlace s 1 n 0)) e
 
   pub stands-at : (n : ℕ) → Stands s (spotAt s n)
   stands-at n = record {
     placed = refl;
     before = λ z.
-        let e : walkRefusal s 1 n ≡ 0 = sym (number n) ∙ z in subst (λ (p : Place). p .k < p .points) (sym (begins n e)) (shape-opened s b (accepted n e) .some);
+        let e : walkRefusal s 1 n ≡ 0 = sym (place-number s 1 n) ∙ z in subst (λ (p : Place). p .k < p .points) (sym (begins s 1 n e)) (shape-opened s b (walk-accepts s 1 n e) .some);
   }
 
   rest-at : (n : ℕ) → walkRefusal s 1 n ≡ 0 → rest s (spotAt s n) ≡ linesFrom (opened s) n 0
   unfolding rest
-  rest-at n e = ap (λ (p : Place). restBy (p .refusal) (linesFrom (opened s) n (p .k))) (begins n e)
+  rest-at n e = ap (λ (p : Place). restBy (p .refusal) (linesFrom (opened s) n (p .k))) (begins s 1 n e)
 
   rest-none : (n : ℕ) → (walkRefusal s 1 n ≡ 0 → ⊥) → rest s (spotAt s n) ≡ []
   unfolding rest
-  rest-none n h = go (placeOf s 1 n .refusal) (λ z. h (sym (number n) ∙ z))
+  rest-none n h = go (placeOf s 1 n .refusal) (λ z. h (sym (place-number s 1 n) ∙ z))
     where
       go : (m : ℕ) → (m ≡ 0 → ⊥) → restBy m (linesFrom (opened s) n (placeOf s 1 n .k)) ≡ []
       go zero h = absurd (h refl)
@@ -190,10 +169,10 @@ module _ (s : List ℕ) (b : Bytes s) where
     k = spot .place .k
 
     walks : walkRefusal s 1 n ≡ 0
-    walks = sym (number n) ∙ sym (ap (λ (p : Place). p .refusal) (t .placed)) ∙ z
+    walks = sym (place-number s 1 n) ∙ sym (ap (λ (p : Place). p .refusal) (t .placed)) ∙ z
 
     is : spot .place ≡ acceptedPlace s 1 n k
-    is = t .placed ∙ ap (movedTo k) (begins n walks)
+    is = t .placed ∙ ap (movedTo k) (begins s 1 n walks)
 
     below : k < M
     below = omega (arith, t .before z, ap (λ (p : Place). p .points) is)
@@ -221,7 +200,7 @@ module _ (s : List ℕ) (b : Bytes s) where
 
     -- there is room for one segment more
     pub segment-small : n < 2147483648
-    segment-small = omega (arith, asked n walks .segment, good-opened s b (accepted n walks) .counts .subarrays-long)
+    segment-small = omega (arith, asked n walks .segment, good-opened s b (walk-accepts s 1 n walks) .counts .subarrays-long)
 
     here : rest s spot ≡ pointLine (opened s) n k ++ linesFrom (opened s) n (suc k)
     unfolding rest
@@ -240,7 +219,7 @@ module _ (s : List ℕ) (b : Bytes s) where
       unfolding rest
       goes-on h = (
         record {
-          placed = moved ∙ ap (movedTo (k + 1)) (sym (begins n walks)) ∙ ap (λ (j : ℕ). movedTo j (placeOf s 1 n)) (sym (ap (λ (p : Place). p .k) moved));
+          placed = moved ∙ ap (movedTo (k + 1)) (sym (begins s 1 n walks)) ∙ ap (λ (j : ℕ). movedTo j (placeOf s 1 n)) (sym (ap (λ (p : Place). p .k) moved));
           before = λ _. h;
         },
         here
@@ -256,7 +235,7 @@ module _ (s : List ℕ) (b : Bytes s) where
         where
           go : M ≤ suc k → (t : Bool) → (t ≡ true → n < g) → (t ≡ false → g ≤ n) → linesFrom (opened s) n (suc k) ≡ rest s (spotAt s (n + 1))
           go l true f h =
-              let e : walkRefusal s 1 (n + 1) ≡ 0 = walked (n + 1) (accepted n walks) (omega arith) (omega (arith, f refl)) in
+              let e : walkRefusal s 1 (n + 1) ≡ 0 = walked (n + 1) (walk-accepts s 1 n walks) (omega arith) (omega (arith, f refl)) in
               lines-segment (opened s) n (suc k) l (f refl) ∙ ap (λ (m : ℕ). linesFrom (opened s) m 0) (sym (add-one n)) ∙ sym (rest-at (n + 1) e)
           go l false f h = lines-end (opened s) n (suc k) l (h refl) ∙ sym (rest-none (n + 1) (λ e. omega (arith, h refl, asked (n + 1) e .segment)))
 
@@ -283,7 +262,7 @@ module _ (s : List ℕ) (b : Bytes s) where
           let one : g ≡ g - 0 = omega arith in
           ap (λ (ns : List ℕ). firstLine (opened s .head) ++ flatten (map (λ n. segmentLines (opened s) n 0) ns)) (ap (upFrom 1) one ∙ up-cons 1 0 g (omega arith))
           ∙ ap (λ (x : List ℕ). firstLine (opened s .head) ++ x) (sym (rest-at 1 (walked 1 q (omega arith) (omega arith))))
-      go (suc r) q = sym (append-nil (refusedLine (suc r))) ∙ ap (λ (x : List ℕ). refusedLine (suc r) ++ x) (sym (rest-none 1 (λ e. omega (arith, accepted 1 e))))
+      go (suc r) q = sym (append-nil (refusedLine (suc r))) ∙ ap (λ (x : List ℕ). refusedLine (suc r) ++ x) (sym (rest-none 1 (λ e. omega (arith, walk-accepts s 1 1 e))))
 
   -- the spot behind the first line
   pub behind-first : (n : ℕ) (r : Spot) → r ≡ spotAt s n → listing s ≡ front s ++ rest s (spotAt s n) → Stands s r × (listing s ≡ front s ++ rest s r)

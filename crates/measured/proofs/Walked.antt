@@ -21,10 +21,10 @@ use Rattle.points.specs.declared.walk.Place.{Place}
 use Rattle.points.specs.declared.walk.Step.{Step}
 use Rattle.points.specs.declared.walk.Step.the-variants.{Point, Done}
 use Rattle.points.specs.Points.{filledBy, filledAs, pointAs}
-use Rattle.points.specs.Walks.{acceptedPlace, startBy, placeOf, stepAt, placeAfter}
+use Rattle.points.specs.Walks.{placeOf, stepAt, placeAfter}
 use Rattle.points.proofs.Refusals.{walk-points}
 use Rattle.points.proofs.Bounds.{point-answer}
-use Rattle.points.proofs.Walking.{begins, walk-steps, walk-ends}
+use Rattle.points.proofs.Walking.{place-number, begins, walk-steps, walk-ends}
 
 -- the number in a fill's answer
 pub filled-number : (s : List ℕ) (a n room : ℕ) → filledAs s a n room .refusal ≡ fillRefusal s a n room
@@ -49,18 +49,9 @@ module _ (s : List ℕ) (a n : ℕ) where
       let last : List (ℕ × List Bool) = (13, leb M room ∷ []) ∷ [] in
       ap first (sym (append-assoc (rules s) own last)) ∙ first-append (rules s ++ own) last (numbered-append (rules s) own (rules-numbered s) (omega arith))
 
-  -- a place's number is the walk's
-  place-number : placeOf s a n .refusal ≡ walkRefusal s a n
-  unfolding placeOf
-  place-number = go (walkRefusal s a n)
-    where
-      go : (m : ℕ) → startBy m (acceptedPlace s a n 0) .refusal ≡ m
-      go zero = refl
-      go (suc m) = refl
-
   module _ (p : Place) (e : p ≡ placeOf s a n) where
     number-is : p .refusal ≡ walkRefusal s a n
-    number-is = ap (λ (x : Place). x .refusal) e ∙ place-number
+    number-is = ap (λ (x : Place). x .refusal) e ∙ place-number s a n
 
     pub number-refused : (room : ℕ) → (p .refusal ≡ 0 → ⊥) → p .refusal ≡ fillRefusal s a n room
     number-refused room h = go (p .refusal) h ∙ ap (λ (m : ℕ). orElse m (cond (leb M room && true) 0 13)) number-is ∙ sym (by-walk room)

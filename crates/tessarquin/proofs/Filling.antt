@@ -1,14 +1,12 @@
 -- What a place before a segment's first point says of its samples: they are in the block (`samples-room`), and their bits are the fill's (`bits-are`).
 use mathlib.Core.Path.{_≡_, refl, sym, ap, ap₂, _∙_, subst}
 use mathlib.Core.Bool.{true}
-use mathlib.Core.List.{List, [], _∷_, _++_, map, flatten, map-map}
-use Prim.Native.Nat.{ℕ, zero, suc, _+_, _-_, _*_, _≤_, _<_}
+use mathlib.Core.List.{List, _++_, map, flatten, map-map}
+use Prim.Native.Nat.{ℕ, suc, _+_, _-_, _*_, _≤_, _<_}
 use native.Mathlib.Nat.{suc-mul}
 use native.Mathlib.Omega.{arith}
 use lib.ListN.{length, drop, length-map}
-use lib.Dec.{T}
 use lib.Ieee.{Float, binary32, binary64, ofBits, toBits}
-use lib.Ieee.Scale.{finite}
 use Rattle.rules.specs.Numbers.{Bytes, bytes, upFrom, splice}
 use Rattle.rules.specs.Wave.{points}
 use Rattle.rules.specs.Rules.{refusal, opened, finite32}
@@ -20,21 +18,12 @@ use Rattle.fills.specs.Fills.{valueAt, bitsAt}
 use Rattle.block.specs.Opened.{openedAs}
 use Rattle.points.specs.declared.walk.Place.{Place}
 use Rattle.points.specs.Steps.{Lent}
-use Rattle.points.specs.Walks.{acceptedPlace, startBy, placeOf}
+use Rattle.points.specs.Walks.{acceptedPlace, placeOf}
 use Rattle.points.proofs.Refusals.{walk-points, walk-accepts}
 use Rattle.points.proofs.Values.{room, value-at}
 use Rattle.points.proofs.Fillings.{map-up}
 use Rattle.points.proofs.Walking.{begins}
 use Rattle.tessarquin.specs.Calls.{fillBytes}
-
--- a place's number is the walk's
-pub place-number : (s : List ℕ) (a n : ℕ) → placeOf s a n .refusal ≡ walkRefusal s a n
-unfolding placeOf
-place-number s a n = go (walkRefusal s a n)
-  where
-    go : (m : ℕ) → startBy m (acceptedPlace s a n 0) .refusal ≡ m
-    go zero = refl
-    go (suc m) = refl
 
 -- the bytes of a fill are eight for each point
 pub length-fill : (s : List ℕ) (a n : ℕ) → length (fillBytes s a n) ≡ points (opened s .head) * 8

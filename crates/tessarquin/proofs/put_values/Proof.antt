@@ -1,6 +1,5 @@
 -- The samples are in the block, and their bits are those of the segment's values.
-use mathlib.Core.Path.{_≡_, _∙_}
-use Prim.Native.Nat.{_+_}
+use mathlib.Core.Path.{_∙_}
 use native.Mathlib.Omega.{arith}
 use Rattle.rules.specs.Numbers.{Bytes}
 use Rattle.rules.proofs.Numbers.{below-index}

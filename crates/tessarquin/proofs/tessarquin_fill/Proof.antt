@@ -7,9 +7,10 @@ use Rattle.rules.specs.Numbers.{Bytes}
 use Rattle.rules.specs.Points.{walkRefusal}
 use Rattle.rules.proofs.Numbers.{below-index}
 use Rattle.points.specs.declared.walk.Place.{Place}
+use Rattle.points.proofs.Walking.{place-number}
 use Rattle.tessarquin.specs.Calls.{fillBytes, fillNumber, fillLeft}
 use Rattle.tessarquin.proofs.Slices.{own-refused, own-short, own-left}
-use Rattle.tessarquin.proofs.Filling.{place-number, length-fill, points-are}
+use Rattle.tessarquin.proofs.Filling.{length-fill, points-are}
 use borrow.Author.Needs.{needs}
 use Rattle.tessarquin.proofs.tessarquin_fill.Statement.{statement}
 use Rattle.tessarquin.proofs.tessarquin_fill.Tie as tie

@@ -1,5 +1,4 @@
 -- The number of the cut, whose output has no bytes.
-use mathlib.Core.Path.{_∙_}
 use Rattle.cuts.specs.Cuts.{setupAs}
 use Rattle.cuts.proofs.Calls as calls
 use borrow.Author.Needs.{needs}
