@@ -6,7 +6,7 @@
 SHELL := /bin/bash
 .SHELLFLAGS := -eu -o pipefail -c
 MAKEFLAGS += --no-print-directory
-.PHONY: list test archive host checked compare soak measured bench fmt tools
+.PHONY: list test archive host checked compare soak bench fmt tools
 
 # The compiled code is for x86-64: elsewhere it is linked by a cross compiler and run by an emulator.
 ifeq ($(shell uname -m),x86_64)
@@ -39,9 +39,11 @@ test: tools
 	@rt fmt --check
 	@log=$$(mktemp); trap 'rm -f "$$log"' EXIT; rt ci | tee "$$log"; $(MAKE) checked; tail -n 1 "$$log"
 
-archive:
+archive: archive-tessarquin
+
+archive-%:
 	@mkdir -p target
-	@rt staticlib tessarquin >target/archive.log 2>&1 || { cat target/archive.log; exit 1; }
+	@rt staticlib $* >target/archive.log 2>&1 || { cat target/archive.log; exit 1; }
 
 host: tools archive
 	@mkdir -p target/host
@@ -69,12 +71,8 @@ compare: tools archive
 soak: compare
 	@target/tests/release/compare --cases $(N) --seed $(SEED) -- $(RUN) target/tests/runner
 
-# Two calls that are only counted.
-measured:
-	@rt staticlib measured >target/measured.log || { cat target/measured.log; exit 1; }
-
 # Counted by the emulator on every machine; where the machine is x86-64, times stand beside the counts.
-bench: tools archive measured
+bench: tools archive archive-measured
 	@command -v qemu-x86_64 >/dev/null || { apt-get update -q && apt-get install -qy qemu-user; } >target/packages.log 2>&1
 	@mkdir -p target/bench
 	@gcc -O2 -Wall -Wextra -Werror -fPIC -shared bench/count.c -o target/bench/count.so

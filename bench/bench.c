@@ -108,9 +108,9 @@ static const struct work {
     size_t width, trigger;
     uint32_t (*lib)(void), (*c)(void);
 } works[] = {
-    {"open", 1, 2, 0, opened, NULL},
+    {"open-low", 1, 2, 0, opened, NULL},
     {"open-high", 0, 2, 0, opened, NULL},
-    {"open-trigger", 1, 2, 1, opened, NULL},
+    {"open-trigger-low", 1, 2, 1, opened, NULL},
     {"open-trigger-high", 0, 2, 1, opened, NULL},
     {"point", 1, 2, 0, one_point, NULL},
     {"point-trigger", 1, 2, 1, last_segment, NULL},
