@@ -23,6 +23,7 @@ LISTING := qemu-x86_64 -L /usr/x86_64-linux-gnu target/bin/listing
 PACKAGES := gcc-x86-64-linux-gnu g++-x86-64-linux-gnu qemu-user
 endif
 CFLAGS := -std=gnu11 -O2 -Wall -Wextra -Werror -static -Iinclude
+INSTALL := DEBIAN_FRONTEND=noninteractive apt-get install -qy
 ARCHIVE := target/staticlib/libtessarquin.a
 MEASURED := target/staticlib/libmeasured.a
 FILE ?= crates/listing/stdin
@@ -73,7 +74,7 @@ soak: compare
 
 # Counted by the emulator on every machine; where the machine is x86-64, times stand beside the counts.
 bench: tools archive archive-measured
-	@command -v qemu-x86_64 >/dev/null || { apt-get update -q && apt-get install -qy qemu-user; } >target/packages.log 2>&1
+	@command -v qemu-x86_64 >/dev/null || { apt-get update -q && $(INSTALL) qemu-user; } >target/packages.log 2>&1
 	@mkdir -p target/bench
 	@gcc -O2 -Wall -Wextra -Werror -fPIC -shared bench/count.c -o target/bench/count.so
 	@$(CC) -std=gnu11 -O3 -Wall -Wextra -Werror -c bench/same.c -o target/bench/same.o
@@ -85,4 +86,4 @@ fmt:
 
 tools:
 	@mkdir -p target
-	@for tool in $(CC) $(CXX) $(RUN); do command -v $$tool || exit 1; done >/dev/null || { apt-get update -q && apt-get install -qy $(PACKAGES); } >target/packages.log 2>&1 || { cat target/packages.log; exit 1; }
+	@for tool in $(CC) $(CXX) $(RUN); do command -v $$tool || exit 1; done >/dev/null || { apt-get update -q && $(INSTALL) $(PACKAGES); } >target/packages.log 2>&1 || { cat target/packages.log; exit 1; }
