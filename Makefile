@@ -86,4 +86,4 @@ fmt:
 
 tools:
 	@mkdir -p target
-	@for tool in $(CC) $(CXX) $(RUN); do command -v $$tool || exit 1; done >/dev/null || { apt-get update -q && $(INSTALL) $(PACKAGES); } >target/packages.log 2>&1 || { cat target/packages.log; exit 1; }
+	@(for tool in $(CC) $(CXX) $(RUN); do command -v $$tool || exit 1; done) >/dev/null || { apt-get update -q && $(INSTALL) $(PACKAGES); } >target/packages.log 2>&1 || { cat target/packages.log; exit 1; }
