@@ -96,6 +96,13 @@ static uint32_t c_words_high(void) { same_fill_words_high(block + samples, point
 static uint32_t c_float_bytes(void) { same_values_bytes(block + samples, points, gain, offset, values); return 0; }
 static uint32_t c_float_words_low(void) { same_values_words_low(block + samples, points, gain, offset, values); return 0; }
 static uint32_t c_float_words_high(void) { same_values_words_high(block + samples, points, gain, offset, values); return 0; }
+static uint32_t c_walked(void)
+{
+    struct same_place place = {samples, 0, (uint32_t)points, 1, 1, 0, 1, gain, offset, 1e-9f, 0};
+    same_walk(block, length, place, values);
+    return 0;
+}
+
 static uint32_t c_copied(void) { same_copy(block, length, out); return 0; }
 static uint32_t c_turned(void) { same_turn(block + samples, points, 1, out); return 0; }
 static uint32_t c_by_4(void) { same_keep(block + samples, points, 4, out); return 0; }
@@ -120,7 +127,7 @@ static const struct work {
     {"floats-word-low", 1, 2, 0, filled_floats, c_float_words_low},
     {"floats-word-high", 0, 2, 0, filled_floats, c_float_words_high},
     {"floats-byte", 1, 1, 0, filled_floats, c_float_bytes},
-    {"walk-word-low", 1, 2, 0, walked_floats, c_float_words_low},
+    {"walk-word-low", 1, 2, 0, walked_floats, c_walked},
     {"cut-copy-word", 1, 2, 0, copied, c_copied},
     {"cut-copy-byte", 1, 1, 0, copied, c_copied},
     {"cut-turn", 1, 2, 0, turned, c_turned},

@@ -1,5 +1,6 @@
 #include "same.h"
 
+#include <math.h>
 #include <string.h>
 
 static uint16_t word(const uint8_t *at)
@@ -78,4 +79,32 @@ void same_turn(const uint8_t *restrict samples, size_t n, size_t step, uint8_t *
 void same_copy(const uint8_t *samples, size_t n, uint8_t *out)
 {
     memcpy(out, samples, n);
+}
+
+static int16_t sample(const uint8_t *at, uint32_t kind, uint32_t order)
+{
+    if (kind == 0)
+        return (int8_t)*at;
+    return (int16_t)(order == 0 ? __builtin_bswap16(word(at)) : word(at));
+}
+
+static int step(const uint8_t *block, size_t length, struct same_place *p, double *value, double *time)
+{
+    size_t at = p->samples + (size_t)p->k * (p->kind + 1);
+    uint32_t i = p->first + p->sparsing * p->k;
+    if (p->kind > 1 || p->k >= p->points || at + p->kind + 1 > length || i >= 1u << 28)
+        return 0;
+    if (!isfinite(p->gain) || !isfinite(p->offset) || !isfinite(p->interval) || !isfinite(p->shift))
+        return 0;
+    *value = (double)p->gain * sample(block + at, p->kind, p->order) - (double)p->offset;
+    *time = (double)p->interval * i + p->shift;
+    p->k++;
+    return 1;
+}
+
+void same_walk(const uint8_t *restrict block, size_t length, struct same_place place, double *restrict out)
+{
+    double time;
+    while (step(block, length, &place, out, &time))
+        out++;
 }

@@ -16,3 +16,17 @@ void same_values_words_high(const uint8_t *samples, size_t n, float gain, float 
 void same_keep(const uint8_t *samples, size_t n, size_t step, uint8_t *out);
 void same_turn(const uint8_t *samples, size_t n, size_t step, uint8_t *out);
 void same_copy(const uint8_t *samples, size_t n, uint8_t *out);
+
+/*
+ * A walk: where a segment's samples stand, and how they are scaled. A step tests its place against the block, as the
+ * walk does, since anyone may have made it; then it answers the value and the time and moves on.
+ */
+struct same_place {
+    size_t samples;
+    uint32_t k, points, order, kind, first, sparsing;
+    float gain, offset, interval;
+    double shift;
+};
+
+/* The values of the points that a walk hands out until it is done. */
+void same_walk(const uint8_t *block, size_t length, struct same_place place, double *out);
