@@ -1,4 +1,4 @@
-/* The same work in C, on samples whose place, order and calibration are known: nothing is checked. */
+/* The same work in C, on samples whose place, order and calibration are known. Nothing is checked, but by the walk. */
 #include <stddef.h>
 #include <stdint.h>
 
