@@ -26,6 +26,7 @@ CFLAGS := -std=gnu11 -O2 -Wall -Wextra -Werror -static -Iinclude
 INSTALL := DEBIAN_FRONTEND=noninteractive apt-get install -qy
 ARCHIVE := target/staticlib/libtessarquin.a
 MEASURED := target/staticlib/libmeasured.a
+HOST := host/trace.c host/ends.c host/files.c host/decimal.c
 FILE ?= crates/listing/stdin
 CARGO := --release --offline --locked --manifest-path tests/Cargo.toml --target-dir target/tests
 SEED ?= 1
@@ -48,17 +49,22 @@ archive-%:
 
 host: tools archive
 	@mkdir -p target/host
-	@$(CC) $(CFLAGS) host/trace.c $(ARCHIVE) -o target/host/trace
+	@$(CC) $(CFLAGS) $(HOST) $(ARCHIVE) -o target/host/trace
 
-# The program that the README prints, the host program, the calls at the end of a page, and the independent reader.
+# The program that the README prints, the calls at the end of a page, the host program (faults.c says which calls go wrong
+# in a second copy of it), and the independent reader.
+checked: WRAPPED := open write fsync close rename renameat2 tessarquin_point
 checked: host
 	@awk '/^```c$$/ { on = 1; next } /^```$$/ { on = 0 } on' README.md >target/host/first.c
 	@$(CC) $(CFLAGS) target/host/first.c $(ARCHIVE) -o target/host/first
-	@[ "$$($(RUN) target/host/first <crates/listing/stdin)" = '-1.75 V at -1 s' ]
 	@$(CXX) -std=c++17 -Wall -Wextra -Werror -Iinclude -fsyntax-only -x c++ target/host/first.c
-	@$(CC) $(CFLAGS) host/calls.c $(ARCHIVE) -o target/host/calls
+	@$(CC) $(CFLAGS) host/tests/calls.c $(ARCHIVE) -o target/host/calls
 	@$(RUN) target/host/calls
-	@host/test '$(RUN)' target/host/trace crates/listing/stdin
+	@$(CC) $(CFLAGS) -Ihost host/tests/decimals.c host/decimal.c -o target/host/decimals
+	@$(RUN) target/host/decimals
+	@$(CC) $(CFLAGS) $(WRAPPED:%=-Wl,--wrap=%) $(HOST) host/tests/faults.c $(ARCHIVE) -o target/host/faulty
+	@$(CC) $(CFLAGS) host/tests/made.c -o target/host/made
+	@host/tests/run '$(RUN)' target/host crates/listing/stdin
 	@cargo test -q --lib $(CARGO)
 	@$(MAKE) compare
 	@target/tests/release/slips
@@ -78,7 +84,7 @@ bench: tools archive archive-measured
 	@mkdir -p target/bench
 	@gcc -O2 -Wall -Wextra -Werror -fPIC -shared bench/count.c -o target/bench/count.so
 	@$(CC) -std=gnu11 -O3 -Wall -Wextra -Werror -c bench/same.c -o target/bench/same.o
-	@$(CC) $(CFLAGS) bench/bench.c target/bench/same.o $(ARCHIVE) $(MEASURED) -o target/bench/bench
+	@$(CC) $(CFLAGS) -Ihost/tests bench/bench.c target/bench/same.o $(ARCHIVE) $(MEASURED) -o target/bench/bench
 	@bench/run target/bench/bench target/bench/count.so $(if $(RUN),no,yes)
 
 fmt:

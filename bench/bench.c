@@ -2,6 +2,7 @@
  * Work to be counted: bench lib|c CASE POINTS TIMES does it so many times; bench time lib|c CASE POINTS prints the
  * nanoseconds of one; bench stack prints how much stack each call takes.
  */
+#include "blocks.h"
 #include "same.h"
 #include "tessarquin.h"
 
@@ -23,51 +24,20 @@ static size_t length, samples, points;
 static uint8_t answer[40];
 static const float gain = 0.5f, offset = 0.25f;
 
-/* ---- blocks: one segment of words, or bytes, or many segments with trigger times */
+/* ---- blocks: one segment of words or bytes, or many segments with trigger times */
 
-static int order;
-
-static void put(size_t at, size_t width, uint64_t n)
+static void make(int order, size_t width, size_t segments, size_t in_each, int trigger)
 {
-    for (size_t i = 0; i < width; i++)
-        block[11 + at + (order ? i : width - 1 - i)] = (uint8_t)(n >> (8 * i));
-}
-
-static void put_float(size_t at, float x)
-{
-    uint32_t bits;
-    memcpy(&bits, &x, sizeof bits);
-    put(at, 4, bits);
-}
-
-static void make(int asked_order, size_t width, size_t segments, size_t in_each, size_t trigger)
-{
-    order = asked_order;
+    struct shape s = {order, (uint32_t)width - 1, (uint32_t)segments, (uint32_t)in_each, trigger};
     points = segments * in_each;
-    size_t trig = trigger * 16 * segments;
-    size_t payload = 346 + trig + points * width;
-    length = 11 + payload;
-    samples = 11 + 346 + trig;
-    block = calloc(length + 1, 1);
+    length = block_bytes(s);
+    samples = samples_at(s);
+    block = malloc(length);
     out = malloc(length + 8 * points + 64);
     values = malloc(points * sizeof *values);
     if (!block || !out || !values)
         exit(2);
-    snprintf((char *)block, 12, "#9%09zu", payload);
-    memcpy(block + 11, "WAVEDESC", 9);
-    memcpy(block + 27, "LECROY_2_3", 11);
-    put(32, 2, width - 1);
-    block[11 + 34] = (uint8_t)order;
-    put(36, 4, 346);
-    put(48, 4, trig);
-    put(60, 4, points * width);
-    put(116, 4, points);
-    put(144, 4, segments);
-    put_float(156, gain);
-    put_float(160, offset);
-    put_float(176, 1e-9f);
-    for (size_t i = 0; i < points * width; i++)
-        block[samples + i] = (uint8_t)(37 * i + i / 256);
+    put_block(block, s);
 }
 
 /* ---- the cases */
@@ -84,6 +54,26 @@ static uint32_t cut_by(uint32_t sp, uint32_t to)
     return tessarquin_cut(block, length, sp, 0, 0, 0, to, out, length, answer, sizeof answer);
 }
 
+/* The points of the last of many segments: asked of the whole block, and of that segment cut out of it. */
+enum { IN_SEQUENCE = 50 };
+
+static uint32_t asked(const uint8_t *of, size_t of_length, uint32_t segment)
+{
+    uint32_t refusal = 0;
+    for (uint32_t k = 0; k < IN_SEQUENCE && !refusal; k++)
+        refusal = tessarquin_point(of, of_length, 1, segment, k, answer, sizeof answer);
+    return refusal;
+}
+
+static uint32_t last_of_many(void) { return (uint32_t)(points / IN_SEQUENCE); }
+static uint32_t of_whole(void) { return asked(block, length, last_of_many()); }
+
+static uint32_t of_cut(void)
+{
+    uint32_t refusal = tessarquin_cut(block, length, 1, 0, 0, last_of_many(), 1, out, length, answer, sizeof answer);
+    return refusal ? refusal : asked(out, (size_t)tessarquin_number(answer, 1), 1);
+}
+
 static uint32_t copied(void) { return cut_by(1, 1); }
 static uint32_t turned(void) { return cut_by(1, 0); }
 static uint32_t by_4(void) { return cut_by(4, 1); }
@@ -98,7 +88,7 @@ static uint32_t c_float_words_low(void) { same_values_words_low(block + samples,
 static uint32_t c_float_words_high(void) { same_values_words_high(block + samples, points, gain, offset, values); return 0; }
 static uint32_t c_walked(void)
 {
-    struct same_place place = {samples, 0, (uint32_t)points, 1, 1, 0, 1, gain, offset, 1e-9f, 0};
+    struct same_place place = {samples, 0, (uint32_t)points, 1, 1, 0, 1, gain, offset, 0.25f, -1};
     same_walk(block, length, place, values);
     return 0;
 }
@@ -112,7 +102,7 @@ static uint32_t c_by_100(void) { same_keep(block + samples, points, 100, out); r
 static const struct work {
     const char *name;
     int order;
-    size_t width, trigger;
+    size_t width, in_each; /* points in each of many segments, with trigger times; or 0, one segment of all */
     uint32_t (*lib)(void), (*c)(void);
 } works[] = {
     {"open-low", 1, 2, 0, opened, NULL},
@@ -121,6 +111,8 @@ static const struct work {
     {"open-trigger-high", 0, 2, 1, opened, NULL},
     {"point", 1, 2, 0, one_point, NULL},
     {"point-trigger", 1, 2, 1, last_segment, NULL},
+    {"sequence-whole", 1, 2, IN_SEQUENCE, of_whole, NULL},
+    {"sequence-cut", 1, 2, IN_SEQUENCE, of_cut, NULL},
     {"fill-word-low", 1, 2, 0, filled, c_words_low},
     {"fill-word-high", 0, 2, 0, filled, c_words_high},
     {"fill-byte", 1, 1, 0, filled, c_bytes},
@@ -148,7 +140,7 @@ static const struct work *find(const char *name)
 static uint32_t (*prepare(const char *who, const char *name, size_t n))(void)
 {
     const struct work *w = find(name);
-    make(w->order, w->width, w->trigger ? n : 1, w->trigger ? 1 : n, w->trigger);
+    make(w->order, w->width, w->in_each ? n : 1, w->in_each ? w->in_each : n, w->in_each != 0);
     uint32_t (*work)(void) = strcmp(who, "lib") == 0 ? w->lib : w->c;
     if (!work || opened() != 0) {
         fprintf(stderr, "bench: %s has no such work\n", name);

@@ -1,93 +1,65 @@
 /*
  * Reads a trace file with Tessarquin: the program that a host author starts from.
  *
- *     trace show FILE                            what the descriptor says
- *     trace points FILE [ARRAY [SEGMENT]]        the points of a segment, or of all: segment, point, seconds, volts
- *     trace cut FILE OUT SP NP FP SN hi|lo       a smaller block, written to OUT
+ *     trace show FILE                                what the descriptor says
+ *     trace points FILE [ARRAY [SEGMENT]]            the points of a segment, or of all: segment, point, seconds, volts
+ *     trace cut [-f] FILE OUT SP NP FP SN hi|lo      a smaller block, written to OUT
+ *
+ * A cut never loses a file: OUT is there whole or as it was, it is never FILE itself, and where it is there already
+ * only -f replaces it. OUT may be a pipe, or - for standard output.
  *
  * It ends with 0; 1 where the block or the cut was refused; 2 where it was called wrongly; 3 where a file or the
- * memory failed. What went wrong stands in one line on standard error.
+ * memory failed, or OUT is in the way. What went wrong stands in one line on standard error.
  */
+#include "host.h"
 #include "tessarquin.h"
 
 #include <ctype.h>
 #include <errno.h>
-#include <stdarg.h>
+#include <signal.h>
 #include <stdio.h>
 #include <stdlib.h>
-
-enum { REFUSED = 1, USAGE = 2, FAILED = 3 };
-
-static void fail(int status, const char *format, ...)
-{
-    va_list args;
-    va_start(args, format);
-    fputs("trace: ", stderr);
-    vfprintf(stderr, format, args);
-    fputc('\n', stderr);
-    va_end(args);
-    exit(status);
-}
 
 static void refused(const char *what, uint32_t refusal)
 {
     fail(REFUSED, "%s is refused (%u): %s", what, (unsigned)refusal, tessarquin_text(refusal));
 }
 
-static void *memory(size_t size)
+static void output_failed(void)
 {
-    void *p = malloc(size ? size : 1);
-    if (!p)
-        fail(FAILED, "no memory for %zu bytes", size);
-    return p;
+    fail(FAILED, "standard output: %s", strerror(errno));
 }
 
-/* ---- the file */
+/* ---- the block in a file */
 
 struct block {
-    uint8_t *bytes;
+    const uint8_t *bytes;
     size_t length;
 };
 
 /* Words such as "C1:WF ALL," that a scope answers before the block; a block without them starts at once. */
-static size_t words_before(const uint8_t *bytes, size_t length)
+static size_t words_before(struct file file)
 {
     size_t i = 0;
-    while (i < length && i < 64 && bytes[i] != '#')
+    while (i < file.length && i < 64 && file.bytes[i] != '#')
         i++;
-    return i < length && bytes[i] == '#' ? i : 0;
+    return i < file.length && file.bytes[i] == '#' ? i : 0;
 }
 
 /* One byte more than the longest block with the longest words: enough to see that a file is too long. */
 #define READ_MOST (TESSARQUIN_BLOCK_MOST + 64u + 1u)
 
-static struct block read_block(const char *name)
+static struct block block_in(const char *name, struct file file)
 {
-    FILE *file = fopen(name, "rb");
-    if (!file)
-        fail(FAILED, "%s: %s", name, strerror(errno));
-    uint8_t *bytes = memory(READ_MOST);
-    size_t length = fread(bytes, 1, READ_MOST, file);
-    if (ferror(file))
-        fail(FAILED, "%s: %s", name, strerror(errno));
-    fclose(file);
-    if (length == READ_MOST)
+    if (file.length == READ_MOST)
         fail(REFUSED, "%s is longer than any block", name);
-    size_t before = words_before(bytes, length);
-    memmove(bytes, bytes + before, length - before);
-    return (struct block){bytes, length - before};
+    size_t before = words_before(file);
+    return (struct block){file.bytes + before, file.length - before};
 }
 
-static void write_block(const char *name, const uint8_t *bytes, size_t length)
+static struct block read_block(const char *name)
 {
-    FILE *file = fopen(name, "wb");
-    if (!file)
-        fail(FAILED, "%s: %s", name, strerror(errno));
-    size_t written = fwrite(bytes, 1, length, file);
-    if (fclose(file) != 0 || written != length) {
-        remove(name);
-        fail(FAILED, "%s: not all %zu bytes could be written, and the file was removed", name, length);
-    }
+    return block_in(name, read_file(name, READ_MOST));
 }
 
 /* ---- what an opened block says */
@@ -140,18 +112,6 @@ static void print_field(const char *name, struct block b, size_t at, size_t most
     putchar('\n');
 }
 
-/* The shortest decimal number that is read back as x. */
-static void print_number(double x)
-{
-    char text[40];
-    for (int digits = 15; digits <= 17; digits++) {
-        snprintf(text, sizeof text, "%.*g", digits, x);
-        if (strtod(text, NULL) == x)
-            break;
-    }
-    fputs(text, stdout);
-}
-
 static void show(const char *name)
 {
     struct block b = read_block(name);
@@ -172,34 +132,60 @@ static void show(const char *name)
 
 /* ---- points */
 
+static void print_point(uint32_t segment, uint32_t k, double time, double value)
+{
+    char line[2 * DECIMAL_MOST + 24], *to = line;
+    to = put_count(to, segment);
+    *to++ = ' ';
+    to = put_count(to, k);
+    *to++ = ' ';
+    to = put_decimal(to, time);
+    *to++ = ' ';
+    to = put_decimal(to, value);
+    *to++ = '\n';
+    size_t length = (size_t)(to - line);
+    if (fwrite(line, 1, length, stdout) != length)
+        output_failed();
+}
+
+/* A segment as a block of its own: its points have the same bits, and each question judges one trigger time, not all. */
+static struct block cut_out(struct block b, struct opened o, uint32_t segment, uint8_t *room)
+{
+    uint8_t answer[TESSARQUIN_CUT_BYTES];
+    uint32_t refusal = tessarquin_cut(b.bytes, b.length, 1, 0, 0, segment, o.order, room, b.length, answer, sizeof answer);
+    if (refusal)
+        refused("the segment", refusal);
+    return (struct block){room, (size_t)tessarquin_number(answer, 1)};
+}
+
+/* The points of a block of one segment, which is segment `segment` of the file. */
 static void print_segment(struct block b, struct opened o, uint32_t array, uint32_t segment, uint8_t *values)
 {
-    uint32_t refusal = tessarquin_fill(b.bytes, b.length, array, segment, values, (size_t)o.points * TESSARQUIN_VALUE_BYTES);
+    uint32_t refusal = tessarquin_fill(b.bytes, b.length, array, 1, values, (size_t)o.points * TESSARQUIN_VALUE_BYTES);
     if (refusal)
         refused("the segment", refusal);
     for (uint32_t k = 0; k < o.points; k++) {
         uint8_t answer[TESSARQUIN_POINT_BYTES];
-        refusal = tessarquin_point(b.bytes, b.length, array, segment, k, answer, sizeof answer);
+        refusal = tessarquin_point(b.bytes, b.length, array, 1, k, answer, sizeof answer);
         if (refusal)
             refused("the point", refusal);
-        printf("%u %u ", (unsigned)segment, (unsigned)k);
-        print_number(tessarquin_double(answer, 1));
-        putchar(' ');
-        print_number(tessarquin_double(values, k));
-        putchar('\n');
+        print_point(segment, k, tessarquin_double(answer, 1), tessarquin_double(values, k));
     }
 }
 
+/* The whole block is asked for one point first, so that what is refused gets its number. */
 static void points(const char *name, uint32_t array, uint32_t segment)
 {
     struct block b = read_block(name);
     struct opened o = open_block(name, b);
-    uint8_t *values = memory((size_t)o.points * TESSARQUIN_VALUE_BYTES);
-    if (segment)
-        print_segment(b, o, array, segment, values);
-    else
-        for (uint32_t n = 1; n <= o.segments; n++)
-            print_segment(b, o, array, n, values);
+    uint32_t first = segment ? segment : 1, last = segment ? segment : o.segments;
+    uint8_t answer[TESSARQUIN_POINT_BYTES];
+    uint32_t refusal = tessarquin_point(b.bytes, b.length, array, first, 0, answer, sizeof answer);
+    if (refusal)
+        refused("the segment", refusal);
+    uint8_t *room = memory(b.length), *values = memory((size_t)o.points * TESSARQUIN_VALUE_BYTES);
+    for (uint32_t n = first; n <= last; n++)
+        print_segment(cut_out(b, o, n, room), o, array, n, values);
 }
 
 /* ---- cuts */
@@ -208,18 +194,21 @@ struct setup {
     uint32_t sp, np, fp, sn, order;
 };
 
-static void cut(const char *name, const char *to, struct setup s)
+static void cut(const char *name, const char *to, struct setup s, int replace)
 {
-    struct block b = read_block(name);
+    struct file file = read_file(name, READ_MOST);
+    struct block b = block_in(name, file);
+    open_block(name, b);
     uint8_t *out = memory(b.length);
     uint8_t answer[TESSARQUIN_CUT_BYTES];
-    open_block(name, b);
     uint32_t refusal = tessarquin_cut(b.bytes, b.length, s.sp, s.np, s.fp, s.sn, s.order, out, b.length, answer, sizeof answer);
     if (refusal)
         refused("the cut", refusal);
     size_t length = (size_t)tessarquin_number(answer, 1);
-    write_block(to, out, length);
-    printf("%u points of each segment kept, %zu bytes written to %s\n", (unsigned)tessarquin_number(answer, 0), length, to);
+    int regular = write_file(file, to, replace, out, length);
+    /* Standard output may be where the block went. */
+    fprintf(regular ? stdout : stderr, "%u points of each segment kept, %zu bytes written to %s\n",
+            (unsigned)tessarquin_number(answer, 0), length, strcmp(to, "-") == 0 ? "standard output" : to);
 }
 
 /* ---- the command line */
@@ -241,17 +230,28 @@ static uint32_t order(const char *word)
     return strcmp(word, "lo") == 0;
 }
 
+/* FILE OUT SP NP FP SN hi|lo */
+static void cut_by(char **words, int replace)
+{
+    struct setup s = {number(words[2]), number(words[3]), number(words[4]), number(words[5]), order(words[6])};
+    cut(words[0], words[1], s, replace);
+}
+
 int main(int count, char **words)
 {
+    /* A file that may not grow is an error that is told, not the end. */
+    signal(SIGXFSZ, SIG_IGN);
     if (count == 3 && strcmp(words[1], "show") == 0)
         show(words[2]);
     else if (count >= 3 && count <= 5 && strcmp(words[1], "points") == 0)
         points(words[2], count > 3 ? number(words[3]) : 1, count > 4 ? number(words[4]) : 0);
     else if (count == 9 && strcmp(words[1], "cut") == 0)
-        cut(words[2], words[3], (struct setup){number(words[4]), number(words[5]), number(words[6]), number(words[7]), order(words[8])});
+        cut_by(words + 2, 0);
+    else if (count == 10 && strcmp(words[1], "cut") == 0 && strcmp(words[2], "-f") == 0)
+        cut_by(words + 3, 1);
     else
-        fail(USAGE, "show FILE | points FILE [ARRAY [SEGMENT]] | cut FILE OUT SP NP FP SN hi|lo");
+        fail(USAGE, "show FILE | points FILE [ARRAY [SEGMENT]] | cut [-f] FILE OUT SP NP FP SN hi|lo");
     if (fflush(stdout) != 0 || ferror(stdout))
-        fail(FAILED, "standard output: %s", strerror(errno));
+        output_failed();
     return 0;
 }

@@ -84,6 +84,14 @@ uint32_t tessarquin_open(const uint8_t *block, size_t block_len,
  *
  * The answer is two doubles: the value in the unit VERTUNIT (volts, mostly), VERTICAL_GAIN times the sample less
  * VERTICAL_OFFSET; and the time in the unit HORUNIT (seconds, mostly) from the trigger. Each is rounded once.
+ *
+ * Each call judges the whole block again, with the trigger times of all its segments. So whoever asks many points of a
+ * block with many segments cuts the segment out first, in the block's own order, and asks segment 1 of what was cut:
+ *
+ *     tessarquin_cut(block, block_len, 1, 0, 0, segment, order, out, out_len, answer, answer_len);
+ *
+ * The points have the same bits, and those of a segment of 50 among 20,000 take 40 times fewer instructions. For the
+ * values alone tessarquin_fill takes one call for a segment.
  */
 uint32_t tessarquin_point(const uint8_t *block, size_t block_len,
                           uint32_t array, uint32_t segment, uint32_t point,

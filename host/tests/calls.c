@@ -2,6 +2,7 @@
  * Tests of the four calls, each with slices that end at a page that cannot be touched and have known bytes before
  * them. Prints one line and ends with 0, or prints what differed and ends with 1.
  */
+#include "blocks.h"
 #include "tessarquin.h"
 
 #include <stdio.h>
@@ -65,62 +66,14 @@ static void give_back(struct slice s, size_t from)
     unmap(s);
 }
 
-/* ---- blocks of the scope document */
+/* ---- blocks */
 
-struct block {
-    struct slice slice;
-    int order;
-};
-
-static void put(struct block b, size_t at, size_t width, uint64_t n)
+static struct slice make(int order, uint32_t type, uint32_t g, uint32_t m, int trigger)
 {
-    for (size_t i = 0; i < width; i++)
-        b.slice.bytes[11 + at + (b.order ? i : width - 1 - i)] = (uint8_t)(n >> (8 * i));
-}
-
-static void put_float(struct block b, size_t at, float x)
-{
-    uint32_t bits;
-    memcpy(&bits, &x, sizeof bits);
-    put(b, at, 4, bits);
-}
-
-static void put_double(struct block b, size_t at, double x)
-{
-    uint64_t bits;
-    memcpy(&bits, &x, sizeof bits);
-    put(b, at, 8, bits);
-}
-
-/* g segments of M points, of bytes (type 0) or words (type 1), with trigger times or without; samples are 0xFD, 0x04, .. */
-static struct block make(int order, uint32_t type, uint32_t g, uint32_t m, int trigger)
-{
-    size_t trig = trigger ? 16 * (size_t)g : 0;
-    size_t samples = (size_t)g * m * (type + 1);
-    size_t length = 346 + trig + samples;
-    struct block b = {lend(11 + length), order};
-    char header[12];
-    snprintf(header, sizeof header, "#9%09zu", length);
-    memcpy(b.slice.bytes, header, 11);
-    memset(b.slice.bytes + 11, 0, length);
-    memcpy(b.slice.bytes + 11, "WAVEDESC", 8);
-    memcpy(b.slice.bytes + 27, "LECROY_2_3", 10);
-    put(b, 32, 2, type);
-    b.slice.bytes[11 + 34] = (uint8_t)order;
-    put(b, 36, 4, 346);
-    put(b, 48, 4, trig);
-    put(b, 60, 4, samples);
-    put(b, 116, 4, (uint64_t)g * m);
-    put(b, 144, 4, g);
-    put_float(b, 156, 0.5f);
-    put_float(b, 160, 0.25f);
-    put_float(b, 176, 0.25f);
-    put_double(b, 180, -1.0);
-    for (size_t n = 0; n < trig / 16; n++)
-        put_double(b, 346 + 16 * n + 8, (double)n);
-    for (size_t i = 0; i < samples; i++)
-        b.slice.bytes[11 + 346 + trig + i] = (uint8_t)(0xFD + 7 * i);
-    return b;
+    struct shape shape = {order, type, g, m, trigger};
+    struct slice s = lend(block_bytes(shape));
+    put_block(s.bytes, shape);
+    return s;
 }
 
 /* ---- the calls, with an answer of `room` bytes that is read back as numbers */
@@ -172,33 +125,33 @@ static uint32_t cut(struct slice block, const uint32_t *setup, uint32_t order, s
 static void test_example(void)
 {
     now = "the example of the scope document";
-    struct block b = make(1, 0, 1, 2, 0);
-    check(opens(b.slice, 40) == 0, "open is refused");
+    struct slice b = make(1, 0, 1, 2, 0);
+    check(opens(b, 40) == 0, "open is refused");
     check(answers[0] == 1 && answers[1] == 2 && answers[2] == 1 && answers[3] == 1 && answers[4] == 0, "open answers other numbers");
-    check(point(b.slice, 1, 1, 0, 16) == 0, "point 0 is refused");
+    check(point(b, 1, 1, 0, 16) == 0, "point 0 is refused");
     check(answers[0] == 0xBFFC000000000000 && answers[1] == 0xBFF0000000000000, "point 0 has other bits");
-    check(point(b.slice, 1, 1, 1, 24) == 0, "point 1 is refused");
+    check(point(b, 1, 1, 1, 24) == 0, "point 1 is refused");
     check(answers[0] == 0x3FFC000000000000 && answers[1] == 0xBFE8000000000000, "point 1 has other bits");
-    check(fill(b.slice, 1, 1, 2, 16) == 0, "fill is refused");
+    check(fill(b, 1, 1, 2, 16) == 0, "fill is refused");
     check(answers[0] == 0xBFFC000000000000 && answers[1] == 0x3FFC000000000000, "fill has other bits");
-    unmap(b.slice);
+    unmap(b);
 }
 
 static void test_short_slices(void)
 {
     now = "slices that are a byte short";
     static const uint32_t all[4] = {1, 0, 0, 0};
-    struct block b = make(1, 0, 1, 2, 0);
-    check(opens(b.slice, 39) == TESSARQUIN_ROOM && opens(b.slice, 0) == TESSARQUIN_ROOM, "open");
-    check(point(b.slice, 1, 1, 0, 15) == TESSARQUIN_ROOM, "point");
-    check(fill(b.slice, 1, 1, 2, 15) == TESSARQUIN_ROOM, "fill");
+    struct slice b = make(1, 0, 1, 2, 0);
+    check(opens(b, 39) == TESSARQUIN_ROOM && opens(b, 0) == TESSARQUIN_ROOM, "open");
+    check(point(b, 1, 1, 0, 15) == TESSARQUIN_ROOM, "point");
+    check(fill(b, 1, 1, 2, 15) == TESSARQUIN_ROOM, "fill");
     struct slice exact = lend(359), less = lend(358);
-    check(cut(b.slice, all, 1, less, 16) == TESSARQUIN_ROOM, "cut, the block");
-    check(cut(b.slice, all, 1, exact, 15) == TESSARQUIN_ROOM, "cut, c and the length");
-    check(cut(b.slice, all, 2, exact, 15) == TESSARQUIN_CHOICE, "13 comes last");
+    check(cut(b, all, 1, less, 16) == TESSARQUIN_ROOM, "cut, the block");
+    check(cut(b, all, 1, exact, 15) == TESSARQUIN_ROOM, "cut, c and the length");
+    check(cut(b, all, 2, exact, 15) == TESSARQUIN_CHOICE, "13 comes last");
     give_back(less, 0);
     give_back(exact, 0);
-    unmap(b.slice);
+    unmap(b);
 }
 
 /* "g 2, M 5, WORD, TRIGTIME 32 bytes: L 398, slice 409; SN 2, SP 2 gives c 3, L 368, slice 379." */
@@ -206,21 +159,21 @@ static void test_cut(int order)
 {
     now = order ? "a cut, low byte first" : "a cut, high byte first";
     static const uint32_t setup[4] = {2, 0, 0, 2};
-    struct block b = make(order, 1, 2, 5, 1);
+    struct slice b = make(order, 1, 2, 5, 1);
     struct slice out = lend(400);
-    check(b.slice.length == 409, "the block has another length");
-    check(cut(b.slice, setup, !order, out, 16) == 0, "it is refused");
+    check(b.length == 409, "the block has another length");
+    check(cut(b, setup, !order, out, 16) == 0, "it is refused");
     check(answers[0] == 3 && answers[1] == 379, "c or the length is another");
     struct slice kept = {out.pages, out.bytes, out.size, 379};
     for (uint32_t k = 0; k < 3; k++) {
         check(point(kept, 1, 1, k, 16) == 0, "a kept point is refused");
         uint64_t value = answers[0], time = answers[1];
-        check(point(b.slice, 1, 2, 2 * k, 16) == 0, "a point is refused");
+        check(point(b, 1, 2, 2 * k, 16) == 0, "a point is refused");
         check(answers[0] == value && answers[1] == time, "a kept point has other bits");
     }
-    check(cut(b.slice, setup, 2, out, 16) == TESSARQUIN_CHOICE, "an order that is none");
+    check(cut(b, setup, 2, out, 16) == TESSARQUIN_CHOICE, "an order that is none");
     give_back(out, 379);
-    unmap(b.slice);
+    unmap(b);
 }
 
 static void test_refusals(void)
@@ -232,28 +185,28 @@ static void test_refusals(void)
         {43, 2, TESSARQUIN_FORM}, {47, 0, TESSARQUIN_TILE}, {55, 1, TESSARQUIN_TILE}, {127, 3, TESSARQUIN_COUNT},
         {151, 1, TESSARQUIN_COUNT}, {146, 0x80, TESSARQUIN_INDEX}, {150, 0x10, TESSARQUIN_INDEX}, {198, 0x7F, TESSARQUIN_FLOAT}};
     for (size_t i = 0; i < sizeof damage / sizeof *damage; i++) {
-        struct block b = make(1, 0, 2, 1, 0);
-        b.slice.bytes[damage[i].at] = damage[i].byte;
+        struct slice b = make(1, 0, 2, 1, 0);
+        b.bytes[damage[i].at] = damage[i].byte;
         if (damage[i].refusal == TESSARQUIN_FLOAT)
-            b.slice.bytes[197] = 0xF0;
-        uint32_t refusal = opens(b.slice, 40);
+            b.bytes[197] = 0xF0;
+        uint32_t refusal = opens(b, 40);
         if (refusal != damage[i].refusal)
             printf("byte %zu: %u\n", damage[i].at, (unsigned)refusal);
         check(refusal == damage[i].refusal, "open gives another number");
-        check(point(b.slice, 3, 9, 9, 0) == damage[i].refusal, "point gives another number");
-        check(fill(b.slice, 3, 9, 0, 0) == damage[i].refusal, "fill gives another number");
-        unmap(b.slice);
+        check(point(b, 3, 9, 9, 0) == damage[i].refusal, "point gives another number");
+        check(fill(b, 3, 9, 0, 0) == damage[i].refusal, "fill gives another number");
+        unmap(b);
     }
-    struct block b = make(0, 1, 2, 3, 0);
-    check(point(b.slice, 2, 0, 3, 0) == TESSARQUIN_CHOICE && point(b.slice, 1, 0, 3, 0) == TESSARQUIN_SEGMENT, "array before segment");
-    check(point(b.slice, 1, 3, 0, 16) == TESSARQUIN_SEGMENT && point(b.slice, 1, 2, 3, 0) == TESSARQUIN_POINT, "segment before point");
-    check(point(b.slice, 1, 2, 2, 16) == 0, "the last point");
+    struct slice b = make(0, 1, 2, 3, 0);
+    check(point(b, 2, 0, 3, 0) == TESSARQUIN_CHOICE && point(b, 1, 0, 3, 0) == TESSARQUIN_SEGMENT, "array before segment");
+    check(point(b, 1, 3, 0, 16) == TESSARQUIN_SEGMENT && point(b, 1, 2, 3, 0) == TESSARQUIN_POINT, "segment before point");
+    check(point(b, 1, 2, 2, 16) == 0, "the last point");
     struct slice none = lend(0);
     static const uint32_t sparse[4] = {268435456, 0, 0, 0};
-    check(cut(b.slice, sparse, 0, none, 0) == TESSARQUIN_SPARSE, "12 before 13");
+    check(cut(b, sparse, 0, none, 0) == TESSARQUIN_SPARSE, "12 before 13");
     check(opens(none, 40) == TESSARQUIN_FRAME, "an empty slice");
     give_back(none, 0);
-    unmap(b.slice);
+    unmap(b);
 }
 
 static void test_texts(void)

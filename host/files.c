@@ -1,0 +1,183 @@
+/* Files are read whole, and written whole or not at all: no file is ever lost by a write that fails. */
+#define _GNU_SOURCE
+#include "host.h"
+
+#include <errno.h>
+#include <fcntl.h>
+#include <signal.h>
+#include <stdio.h>
+#include <stdlib.h>
+#include <string.h>
+#include <sys/stat.h>
+#include <unistd.h>
+
+static _Noreturn void file_failed(const char *name)
+{
+    fail(FAILED, "%s: %s", name, strerror(errno));
+}
+
+struct file read_file(const char *name, size_t most)
+{
+    FILE *file = fopen(name, "rb");
+    struct stat is;
+    if (!file || fstat(fileno(file), &is) != 0)
+        file_failed(name);
+    uint8_t *bytes = memory(most);
+    size_t length = fread(bytes, 1, most, file);
+    if (ferror(file))
+        file_failed(name);
+    fclose(file);
+    return (struct file){bytes, length, is.st_dev, is.st_ino};
+}
+
+/* How many of the bytes were written; where not all, errno says why. */
+static size_t write_all(int file, const uint8_t *bytes, size_t length)
+{
+    size_t done = 0;
+    while (done < length) {
+        ssize_t n = write(file, bytes + done, length - done);
+        if (n < 0 && errno == EINTR)
+            continue;
+        if (n == 0)
+            errno = EIO;
+        if (n <= 0)
+            break;
+        done += (size_t)n;
+    }
+    return done;
+}
+
+/* ---- pipes, devices, standard output */
+
+static void write_plainly(const char *name, int file, const uint8_t *bytes, size_t length)
+{
+    size_t done = write_all(file, bytes, length);
+    if (done < length)
+        fail(FAILED, "%s: %s, after %zu of %zu bytes", name, strerror(errno), done, length);
+}
+
+/* Opened without making or emptying anything, and looked at again: a regular file of this name is left alone. */
+static void write_to_device(const char *name, const uint8_t *bytes, size_t length)
+{
+    struct stat is;
+    int file = open(name, O_WRONLY | O_NOCTTY);
+    if (file < 0 || fstat(file, &is) != 0)
+        file_failed(name);
+    if (S_ISREG(is.st_mode))
+        fail(FAILED, "%s: %s", name, strerror(EEXIST));
+    write_plainly(name, file, bytes, length);
+    if (close(file) != 0)
+        file_failed(name);
+}
+
+/* ---- regular files */
+
+/* A file that was not there before, in the folder of `to`, and its name; -1 where there can be none. */
+static int create_beside(const char *to, mode_t mode, char *name, size_t room)
+{
+    const char *slash = strrchr(to, '/');
+    int folder = slash ? (int)(slash - to) + 1 : 0, file = -1;
+    for (unsigned n = 0; file < 0 && n < 100 && (n == 0 || errno == EEXIST); n++) {
+        snprintf(name, room, "%.*s.trace-%ld-%u", folder, to, (long)getpid(), n);
+        file = open(name, O_WRONLY | O_CREAT | O_EXCL, mode);
+    }
+    return file;
+}
+
+/* Renames, and only if asked replaces what has the name `to`, also what came to have it just now. */
+static int put_in_place(const char *name, const char *to, int replace)
+{
+    if (replace)
+        return rename(name, to);
+    if (renameat2(AT_FDCWD, name, AT_FDCWD, to, RENAME_NOREPLACE) == 0)
+        return 0;
+    if (errno != EINVAL && errno != ENOSYS)
+        return -1;
+    /* A file system without that rename may have links, which never replace anything. */
+    if (link(name, to) != 0)
+        return -1;
+    unlink(name);
+    return 0;
+}
+
+/* 0, or why it failed: then `to` is as it was. `old` is what it was, or null. */
+static int write_beside(const char *to, const struct stat *old, int replace, const uint8_t *bytes, size_t length)
+{
+    mode_t mode = old ? old->st_mode & 0777 : 0666;
+    size_t room = strlen(to) + 64;
+    char *name = memory(room);
+    int file = create_beside(to, mode, name, room);
+    if (file < 0)
+        return errno;
+    /* What the umask took from the old mode; where a file system has no modes, there is nothing to keep. */
+    if (old)
+        fchmod(file, mode);
+    int why = write_all(file, bytes, length) < length || fsync(file) != 0 ? errno : 0;
+    if (close(file) != 0 && !why)
+        why = errno;
+    if (!why && put_in_place(name, to, replace) != 0)
+        why = errno;
+    if (why)
+        unlink(name);
+    return why;
+}
+
+/* A signal waits until the new file has its name or is gone. */
+static void write_regular(const char *to, const struct stat *old, int replace, const uint8_t *bytes, size_t length)
+{
+    char *place = old ? realpath(to, NULL) : strdup(to);
+    if (!place)
+        file_failed(to);
+    sigset_t all, before;
+    sigfillset(&all);
+    sigprocmask(SIG_BLOCK, &all, &before);
+    int why = write_beside(place, old, replace, bytes, length);
+    sigprocmask(SIG_SETMASK, &before, NULL);
+    if (why)
+        fail(FAILED, "%s: %s%s", to, strerror(why), old ? "; it is as it was" : "");
+}
+
+/* ---- which of them */
+
+/* Ends where `is` tells of the file `from`, whatever name it was reached by. */
+static void spare(struct file from, const struct stat *is, const char *name)
+{
+    if (from.device == is->st_dev && from.inode == is->st_ino)
+        fail(FAILED, "%s is the file that was read, and is left as it is", name);
+}
+
+static void write_standard(struct file from, const uint8_t *bytes, size_t length)
+{
+    static const char name[] = "standard output";
+    struct stat is;
+    if (fstat(STDOUT_FILENO, &is) != 0)
+        file_failed(name);
+    spare(from, &is, name);
+    write_plainly(name, STDOUT_FILENO, bytes, length);
+}
+
+int write_file(struct file from, const char *to, int replace, const uint8_t *bytes, size_t length)
+{
+    struct stat old;
+    if (strcmp(to, "-") == 0) {
+        write_standard(from, bytes, length);
+        return 0;
+    }
+    if (stat(to, &old) != 0) {
+        if (errno != ENOENT)
+            file_failed(to);
+        if (lstat(to, &old) == 0)
+            fail(FAILED, "%s is a link to a file that is not there", to);
+        write_regular(to, NULL, replace, bytes, length);
+        return 1;
+    }
+    spare(from, &old, to);
+    if (!replace && (S_ISREG(old.st_mode) || S_ISBLK(old.st_mode)))
+        fail(FAILED, "%s is there already: -f replaces it", to);
+    if (S_ISREG(old.st_mode)) {
+        write_regular(to, &old, replace, bytes, length);
+        return 1;
+    }
+    write_to_device(to, bytes, length);
+    return 0;
+}

@@ -1,0 +1,117 @@
+/*
+ * Linked into a second copy of the program, for its tests: these stand before the calls of the same name, and the word
+ * in the environment's FAULT says what goes wrong.
+ *
+ *     full       a write takes half of the bytes, and the next one finds no space
+ *     slow       a write takes at most 100 bytes, and every second one is interrupted
+ *     flush      the disk fails where the bytes are flushed to it
+ *     close      it fails where the file is closed
+ *     interrupt  the program is interrupted while it flushes
+ *     rename     a file cannot be renamed
+ *     meanwhile  OUT comes to be just before the new file gets its name
+ *     links      a file system with links, but without the rename that replaces nothing
+ *     between    both: OUT comes to be on such a file system
+ *     swapped    a file stands where a pipe did, just before it is opened
+ *     count      tells at the end how many questions were asked of blocks of more than 1,000 bytes
+ */
+#define _GNU_SOURCE
+#include "tessarquin.h"
+
+#include <errno.h>
+#include <fcntl.h>
+#include <signal.h>
+#include <stdarg.h>
+#include <stdio.h>
+#include <stdlib.h>
+#include <unistd.h>
+
+int __real_open(const char *name, int flags, ...);
+ssize_t __real_write(int file, const void *bytes, size_t length);
+int __real_fsync(int file);
+int __real_close(int file);
+int __real_rename(const char *from, const char *to);
+int __real_renameat2(int from_folder, const char *from, int to_folder, const char *to, unsigned flags);
+uint32_t __real_tessarquin_point(const uint8_t *block, size_t block_len, uint32_t array, uint32_t segment, uint32_t point,
+                                 uint8_t *answer, size_t answer_len);
+
+static int fault(const char *word)
+{
+    const char *asked = getenv("FAULT");
+    return asked && strcmp(asked, word) == 0;
+}
+
+static int failed(int why)
+{
+    errno = why;
+    return -1;
+}
+
+/* An empty file, which was not there before. */
+static void make(const char *name)
+{
+    __real_close(__real_open(name, O_WRONLY | O_CREAT | O_EXCL, 0666));
+}
+
+int __wrap_open(const char *name, int flags, ...)
+{
+    va_list mode;
+    va_start(mode, flags);
+    if (fault("swapped") && unlink(name) == 0)
+        make(name);
+    int file = __real_open(name, flags, flags & O_CREAT ? va_arg(mode, mode_t) : 0);
+    va_end(mode);
+    return file;
+}
+
+ssize_t __wrap_write(int file, const void *bytes, size_t length)
+{
+    static unsigned before;
+    int again = before++ % 2;
+    if (fault("full"))
+        return again ? failed(ENOSPC) : __real_write(file, bytes, length / 2);
+    if (fault("slow"))
+        return again ? failed(EINTR) : __real_write(file, bytes, length < 100 ? length : 100);
+    return __real_write(file, bytes, length);
+}
+
+int __wrap_fsync(int file)
+{
+    if (fault("interrupt"))
+        raise(SIGINT);
+    return fault("flush") ? failed(EIO) : __real_fsync(file);
+}
+
+int __wrap_close(int file)
+{
+    int closed = __real_close(file);
+    return fault("close") ? failed(EIO) : closed;
+}
+
+int __wrap_rename(const char *from, const char *to)
+{
+    return fault("rename") ? failed(EACCES) : __real_rename(from, to);
+}
+
+int __wrap_renameat2(int from_folder, const char *from, int to_folder, const char *to, unsigned flags)
+{
+    if (fault("meanwhile") || fault("between"))
+        make(to);
+    if (fault("links") || fault("between"))
+        return failed(EINVAL);
+    return __real_renameat2(from_folder, from, to_folder, to, flags);
+}
+
+static unsigned long questions;
+
+static void tell(void)
+{
+    fprintf(stderr, "%lu questions\n", questions);
+}
+
+uint32_t __wrap_tessarquin_point(const uint8_t *block, size_t block_len, uint32_t array, uint32_t segment, uint32_t point,
+                                 uint8_t *answer, size_t answer_len)
+{
+    if (fault("count") && block_len > 1000 && questions++ == 0)
+        atexit(tell);
+    return __real_tessarquin_point(block, block_len, array, segment, point, answer, answer_len);
+}
