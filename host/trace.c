@@ -241,14 +241,13 @@ int main(int count, char **words)
 {
     /* A file that may not grow is an error that is told, not the end. */
     signal(SIGXFSZ, SIG_IGN);
+    int replace = count > 2 && strcmp(words[1], "cut") == 0 && strcmp(words[2], "-f") == 0;
     if (count == 3 && strcmp(words[1], "show") == 0)
         show(words[2]);
     else if (count >= 3 && count <= 5 && strcmp(words[1], "points") == 0)
         points(words[2], count > 3 ? number(words[3]) : 1, count > 4 ? number(words[4]) : 0);
-    else if (count == 9 && strcmp(words[1], "cut") == 0)
-        cut_by(words + 2, 0);
-    else if (count == 10 && strcmp(words[1], "cut") == 0 && strcmp(words[2], "-f") == 0)
-        cut_by(words + 3, 1);
+    else if (count == 9 + replace && strcmp(words[1], "cut") == 0)
+        cut_by(words + 2 + replace, replace);
     else
         fail(USAGE, "show FILE | points FILE [ARRAY [SEGMENT]] | cut [-f] FILE OUT SP NP FP SN hi|lo");
     if (fflush(stdout) != 0 || ferror(stdout))
