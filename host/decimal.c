@@ -72,8 +72,8 @@ static uint64_t five_to(int p)
 }
 
 /*
- * x is m * 2^e, and x * 10^p = near / 2^s in whole numbers. Every number between least and most is read back as x, and
- * so are these two where m is even. With 17 digits before the point, the last two are given up one after the other.
+ * x is m * 2^e, and x * 10^p, with 17 digits before the point, is near / 2^s in whole numbers. What stands between least
+ * and most is read back as x, and so are these two where m is even. Tried are x rounded to hundreds, to tens, to ones.
  */
 static char *put_exactly(char *to, double x)
 {
@@ -81,7 +81,7 @@ static char *put_exactly(char *to, double x)
     memcpy(&bits, &x, sizeof bits);
     uint64_t m = (bits & ((UINT64_C(1) << 52) - 1)) | UINT64_C(1) << 52;
     int e = (int)(bits >> 52) - 1075;
-    /* 2^(e + 52) <= x, and 1233 / 4096 is log 2: this p is right, or one too large. */
+    /* 2^(e + 52) is at most x and above x / 2, and 1233 / 4096 is nearly log 2: this p is right, or one too large. */
     int p = 16 - (((e + 52) * 1233) >> 12);
     if ((wide)(4 * m) * five_to(p) >> (2 - e - p) >= UINT64_C(100000000000000000))
         p--;

@@ -86,7 +86,8 @@ uint32_t tessarquin_open(const uint8_t *block, size_t block_len,
  * VERTICAL_OFFSET; and the time in the unit HORUNIT (seconds, mostly) from the trigger. Each is rounded once.
  *
  * Each call judges the whole block again, with the trigger times of all its segments. So whoever asks many points of a
- * block with many segments cuts the segment out first, in the block's own order, and asks segment 1 of what was cut:
+ * block with many segments cuts the segment out first, in the order that tessarquin_open answers, and asks segment 1
+ * of what was cut:
  *
  *     tessarquin_cut(block, block_len, 1, 0, 0, segment, order, out, out_len, answer, answer_len);
  *
