@@ -84,7 +84,7 @@ static int create_beside(const char *to, mode_t mode, char *name, size_t room)
     return file;
 }
 
-/* Renames, and only if asked replaces what has the name `to`, also what came to have it just now. */
+/* Renames. What has the name `to` is replaced if asked, and otherwise left alone, also what came to have it just now. */
 static int put_in_place(const char *name, const char *to, int replace)
 {
     if (replace)
@@ -100,8 +100,8 @@ static int put_in_place(const char *name, const char *to, int replace)
     return 0;
 }
 
-/* 0, or why it failed: then `to` is as it was. `old` is what it was, or null. */
-static int write_beside(const char *to, const struct stat *old, int replace, const uint8_t *bytes, size_t length)
+/* 0, or why it failed: then `to` is as it was. `old` is what is replaced there, or null. */
+static int write_beside(const char *to, const struct stat *old, const uint8_t *bytes, size_t length)
 {
     mode_t mode = old ? old->st_mode & 0777 : 0666;
     size_t room = strlen(to) + 64;
@@ -115,7 +115,7 @@ static int write_beside(const char *to, const struct stat *old, int replace, con
     int why = write_all(file, bytes, length) < length || fsync(file) != 0 ? errno : 0;
     if (close(file) != 0 && !why)
         why = errno;
-    if (!why && put_in_place(name, to, replace) != 0)
+    if (!why && put_in_place(name, to, old != NULL) != 0)
         why = errno;
     if (why)
         unlink(name);
@@ -123,7 +123,7 @@ static int write_beside(const char *to, const struct stat *old, int replace, con
 }
 
 /* A signal waits until the new file has its name or is gone. */
-static void write_regular(const char *to, const struct stat *old, int replace, const uint8_t *bytes, size_t length)
+static void write_regular(const char *to, const struct stat *old, const uint8_t *bytes, size_t length)
 {
     char *place = old ? realpath(to, NULL) : strdup(to);
     if (!place)
@@ -131,7 +131,7 @@ static void write_regular(const char *to, const struct stat *old, int replace, c
     sigset_t all, before;
     sigfillset(&all);
     sigprocmask(SIG_BLOCK, &all, &before);
-    int why = write_beside(place, old, replace, bytes, length);
+    int why = write_beside(place, old, bytes, length);
     sigprocmask(SIG_SETMASK, &before, NULL);
     if (why)
         fail(FAILED, "%s: %s%s", to, strerror(why), old ? "; it is as it was" : "");
@@ -168,14 +168,14 @@ int write_file(struct file from, const char *to, int replace, const uint8_t *byt
             file_failed(to);
         if (lstat(to, &old) == 0)
             fail(FAILED, "%s is a link to a file that is not there", to);
-        write_regular(to, NULL, replace, bytes, length);
+        write_regular(to, NULL, bytes, length);
         return 1;
     }
     spare(from, &old, to);
     if (!replace && (S_ISREG(old.st_mode) || S_ISBLK(old.st_mode)))
         fail(FAILED, "%s is there already: -f replaces it", to);
     if (S_ISREG(old.st_mode)) {
-        write_regular(to, &old, replace, bytes, length);
+        write_regular(to, &old, bytes, length);
         return 1;
     }
     write_to_device(to, bytes, length);
