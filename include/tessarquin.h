@@ -52,8 +52,8 @@ enum tessarquin_refusal {
     TESSARQUIN_SEGMENT = 10, /* there is no such segment */
     TESSARQUIN_POINT = 11,   /* there is no such point in a segment */
     TESSARQUIN_SPARSE = 12,  /* the block is thinned too much already for this step */
-    TESSARQUIN_ROOM = 13,    /* a slice lent for the answer is too short */
-    TESSARQUIN_RESULT = 14   /* the cut block would break a rule: proved never to be returned */
+    TESSARQUIN_ROOM = 13     /* a slice lent for the answer is too short */
+    /* 14 was never given and is not used: what a cut writes obeys the rules */
 };
 
 /* The longest block: header, 16,777,216 bytes of payload, and a new line. A cut is never longer than its block, and never has the new line. */
@@ -117,10 +117,10 @@ uint32_t tessarquin_fill(const uint8_t *block, size_t block_len,
  *     sn     of segment sn alone; 0 is all segments
  *     order  the byte order of the block written: 0 high byte first, 1 low byte first
  *
- * The block goes to out; room for the block that is cut is always enough. The answer is two numbers: c, the points
- * kept of each segment, and the bytes written to out. The kept points have their values and times bit for bit, and a
- * cut of a cut is the one cut with sp the product, fp = fp1 + sp1 * fp2, np the c of the second and sn that of the
- * first, or of the second where the first is 0.
+ * The block goes to out; room for the block that is cut is always enough. It obeys the rules: no call refuses it by
+ * 1 to 8. The answer is two numbers: c, the points kept of each segment, and the bytes written to out. The kept points
+ * have their values and times bit for bit, and a cut of a cut is the one cut with sp the product, fp = fp1 + sp1 * fp2,
+ * np the c of the second and sn that of the first, or of the second where the first is 0.
  */
 uint32_t tessarquin_cut(const uint8_t *block, size_t block_len,
                         uint32_t sp, uint32_t np, uint32_t fp, uint32_t sn, uint32_t order,
@@ -162,7 +162,7 @@ static inline const char *tessarquin_text(uint32_t refusal)
         "there is no such point in a segment",
         "the block is thinned too much already for this step",
         "a slice lent for the answer is too short",
-        "the cut block would break a rule",
+        "14 was never given and is not used",
     };
     return refusal < sizeof texts / sizeof *texts ? texts[refusal] : "no refusal has this number";
 }

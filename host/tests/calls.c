@@ -214,6 +214,7 @@ static void test_texts(void)
     now = "the texts of refusals";
     for (uint32_t n = 0; n <= 14; n++)
         check(*tessarquin_text(n) && (n == 0 || strcmp(tessarquin_text(n), tessarquin_text(n - 1)) != 0), "two are the same");
+    check(strcmp(tessarquin_text(14), "14 was never given and is not used") == 0, "14 says something else");
     check(strcmp(tessarquin_text(15), tessarquin_text(UINT32_MAX)) == 0, "no number, no text of its own");
 }
 

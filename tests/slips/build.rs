@@ -7,13 +7,15 @@ use std::{env, fs};
 
 const LAW: &str = "../src/law";
 const LIST: &str = "wrong.txt";
-const BREAKS_DEMAND_3: &str = ", breaks demand 3";
+const BREAKS_DEMAND_3: &str = "breaks demand 3";
+const BREAKS_A_RULE: &str = "breaks a rule";
 
 /// One entry of the list; a line left out has no wrong one.
 struct Entry {
     title: String,
-    breaks_demand_3: bool,
     file: String,
+    breaks_demand_3: bool,
+    breaks_a_rule: bool,
     right: String,
     wrong: String,
 }
@@ -29,11 +31,11 @@ fn main() {
         let folder = out.join(format!("wrong_{number}"));
         write_copy(&folder, &files, entry);
         let module = folder.join("mod.rs");
-        let Entry { title, breaks_demand_3, .. } = entry;
+        let Entry { title, breaks_demand_3, breaks_a_rule, .. } = entry;
         writeln!(modules, "#[path = {module:?}]\nmod wrong_{number};").expect("a string grows");
         writeln!(
             names,
-            "Version {{ title: {title:?}, breaks_demand_3: {breaks_demand_3}, calls: calls_of!(wrong_{number}::calls) }},"
+            "Version {{ title: {title:?}, breaks_demand_3: {breaks_demand_3}, breaks_a_rule: {breaks_a_rule}, calls: calls_of!(wrong_{number}::calls) }},"
         )
         .expect("a string grows");
     }
@@ -66,11 +68,17 @@ fn entries(list: &str) -> Vec<Entry> {
             let right =
                 part("- ").unwrap_or_else(|| panic!("{LIST}: \"{title}\" has no right line"));
             let wrong = part("+ ").unwrap_or("").to_string();
-            let (file, breaks_demand_3) = match group[1].strip_suffix(BREAKS_DEMAND_3) {
-                Some(file) => (file.to_string(), true),
-                None => (group[1].to_string(), false),
-            };
-            Entry { title, breaks_demand_3, file, right: right.to_string(), wrong }
+            let (file, marks) = group[1].split_once(", ").unwrap_or((group[1], ""));
+            let (mut breaks_demand_3, mut breaks_a_rule) = (false, false);
+            for mark in marks.split(", ").filter(|mark| !mark.is_empty()) {
+                match mark {
+                    BREAKS_DEMAND_3 => breaks_demand_3 = true,
+                    BREAKS_A_RULE => breaks_a_rule = true,
+                    _ => panic!("{LIST}: \"{title}\": \"{mark}\" is no mark"),
+                }
+            }
+            let (file, right) = (file.to_string(), right.to_string());
+            Entry { title, file, breaks_demand_3, breaks_a_rule, right, wrong }
         })
         .collect()
 }

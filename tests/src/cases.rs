@@ -5,12 +5,16 @@ use crate::draft::nine_digits;
 use crate::edges::{self, Edge};
 use crate::law::descriptor::*;
 use crate::law::numbers::{read_signed, store};
-use crate::law::rules::{open, HEADER};
+use crate::law::rules::{open, Refusal, HEADER};
 use crate::pairs;
 use crate::questions::{request, Extent};
 use crate::random::Random;
 use crate::request::Call;
+use crate::results;
 use crate::shape::{any_order, Shape};
+
+/// 13 comes last: a cut that it refuses passes every other check.
+const ROOM: u32 = Refusal::Room as u32;
 
 /// One case in so many has a long block.
 const LARGE_EVERY: u64 = 400;
@@ -52,6 +56,13 @@ pub fn run(checker: &mut Checker, seed: u64, case: u64) -> (String, Result<(), D
 pub fn cut_of_cut(checker: &mut Checker, random: &mut Random) -> Result<(), Difference> {
     let block = right_block(random);
     pairs::check(checker, &block, random)
+}
+
+/// A cut of a right block; what it writes is opened.
+pub fn cut_opened(checker: &mut Checker, random: &mut Random) -> Result<(), Difference> {
+    let block = right_block(random);
+    let cut = Extent::of(&block).cut(random);
+    ask(checker, &block, random, &[cut])
 }
 
 fn take_turn(edges: &[&'static Edge], turn: u64) -> &'static Edge {
@@ -149,7 +160,10 @@ fn ask(
     calls: &[Call],
 ) -> Result<(), Difference> {
     for call in calls {
-        checker.ask(&request(random, *call, block))?;
+        let reply = checker.ask(&request(random, *call, block))?;
+        if matches!((call, reply.number), (Call::Cut { .. }, 0 | ROOM)) {
+            results::check(checker, block, *call, random)?;
+        }
     }
     Ok(())
 }

@@ -11,6 +11,8 @@ pub struct Tally {
     pub calls: u64,
     /// How often each number came, 0 to 13.
     pub seen: [u64; NUMBERS],
+    /// Blocks that a cut wrote and that were opened.
+    pub cut_blocks: u64,
 }
 
 impl Tally {

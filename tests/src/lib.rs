@@ -11,6 +11,7 @@ pub mod pairs;
 pub mod questions;
 pub mod random;
 pub mod request;
+pub mod results;
 pub mod runner;
 pub mod shape;
 

@@ -91,8 +91,13 @@ fn run_all(options: &Options) -> Result<String, String> {
     if !unseen.is_empty() {
         return Err(format!("{cases} cases are too few: refusals {unseen:?} were never seen"));
     }
-    let (calls, numbers) = (tally.calls, tally.numbers());
-    Ok(format!("{cases} cases, {calls} calls, no difference; numbers seen: {numbers}"))
+    let (calls, cut_blocks, numbers) = (tally.calls, tally.cut_blocks, tally.numbers());
+    if cut_blocks == 0 {
+        return Err(format!("{cases} cases are too few: no cut block was opened"));
+    }
+    Ok(format!(
+        "{cases} cases, {calls} calls, no difference; {cut_blocks} cut blocks opened, none refused; numbers seen: {numbers}"
+    ))
 }
 
 fn run_one(options: &Options, case: u64) -> Result<String, String> {

@@ -13,14 +13,14 @@ pub fn check(checker: &mut Checker, block: &[u8], random: &mut Random) -> Result
     if first.number != 0 {
         return Err(Difference(format!("{a}: refused by {}", first.number)));
     }
-    let first_block = written(&first);
+    let first_block = first.written();
     kept_points(checker, block, a, &first, random)?;
 
     // b is of any kind: it may be refused, and its room may be short.
     let extent = Extent::of(first_block);
     let b = if random.once_in(4) { extent.cut(random) } else { extent.right_cut(random) };
     let full = checker.ask(&with_room(random, b, first_block, first_block.len(), 16))?;
-    let need = if full.number == 0 { written(&full).len() } else { first_block.len() };
+    let need = if full.number == 0 { full.written().len() } else { first_block.len() };
     let out_room = random.pick(&[need, need, need, need - 1, need + 9]);
     let answer_room = random.pick(&[16, 16, 16, 16, 15, 20]);
     let of_cut = with_room(random, b, first_block, out_room, answer_room);
@@ -29,7 +29,7 @@ pub fn check(checker: &mut Checker, block: &[u8], random: &mut Random) -> Result
         // A segment or point that the first cut left out may well be in the first block.
         return Ok(());
     }
-    let c = if second.number == 0 { numbers(&second)[0] } else { 0 };
+    let c = if second.number == 0 { second.number_at(0) } else { 0 };
     let Some(combined) = combined(a, b, c) else {
         return Ok(()); // SP does not fit 32 bits, so b was refused for it
     };
@@ -83,14 +83,14 @@ fn kept_points(
     random: &mut Random,
 ) -> Result<(), Difference> {
     let Call::Cut { sp, fp, sn, .. } = cut else { unreachable!("the call is a cut") };
-    for (array, segment, k) in some_points(&Extent::of(written(reply)), random) {
+    for (array, segment, k) in some_points(&Extent::of(reply.written()), random) {
         let kept = Call::Point { array, segment, point: k };
         let first = Call::Point {
             array,
             segment: if sn == 0 { segment } else { sn },
             point: fp + sp.max(1) * k,
         };
-        let kept_reply = checker.ask(&exact_request(random, kept, written(reply)))?;
+        let kept_reply = checker.ask(&exact_request(random, kept, reply.written()))?;
         let first_reply = checker.ask(&exact_request(random, first, block))?;
         if kept_reply.number != 0 || kept_reply.answer != first_reply.answer {
             return Err(Difference(format!("after {cut}, {kept} is not what {first} was")));
@@ -113,17 +113,4 @@ fn some_points(extent: &Extent, random: &mut Random) -> Vec<(u32, u32, u32)> {
     let last = all - 1;
     let any = random.draw();
     [0, last, any % all, (any >> 20) % all].into_iter().map(point).collect()
-}
-
-/// The block that a cut wrote.
-fn written(reply: &Reply) -> &[u8] {
-    let length = numbers(reply)[1] as usize;
-    &reply.out[..length.min(reply.out.len())]
-}
-
-fn numbers(reply: &Reply) -> [u64; 2] {
-    [0, 8].map(|at| {
-        let bytes = reply.answer[at..at + 8].try_into().expect("eight bytes");
-        u64::from_be_bytes(bytes)
-    })
 }

@@ -171,8 +171,7 @@ fn need(call: Call, block: &[u8]) -> (usize, usize) {
         Call::Cut { .. } => {
             let (out, answer) = (vec![0; block.len()], vec![0; 16]);
             let reply = LAW.reply(&Request { call, block, out, answer });
-            let length = u64::from_be_bytes(reply.answer[8..].try_into().expect("eight bytes"));
-            (if reply.number == 0 { length as usize } else { 400 }, 16)
+            (if reply.number == 0 { reply.written().len() } else { 400 }, 16)
         }
     }
 }

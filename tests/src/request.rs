@@ -47,6 +47,20 @@ pub struct Reply {
     pub spoiled: Vec<&'static str>,
 }
 
+impl Reply {
+    /// Number i of the answer.
+    pub fn number_at(&self, i: usize) -> u64 {
+        let bytes = self.answer[8 * i..8 * i + 8].try_into().expect("eight bytes");
+        u64::from_be_bytes(bytes)
+    }
+
+    /// The block that an accepted cut wrote.
+    pub fn written(&self) -> &[u8] {
+        let length = self.number_at(1) as usize;
+        &self.out[..length.min(self.out.len())]
+    }
+}
+
 /// Something that answers the four calls.
 pub trait Core {
     /// The reply, or in words why there is none.

@@ -56,6 +56,17 @@ pub fn cuts(name: &[u8], shape: u32, setup: Setup, order: u32, room: usize) {
     print(w.refusal, name);
 }
 
+// Opens what a cut writes.
+pub fn opens_cut(name: &[u8], shape: u32, setup: Setup, order: u32) {
+    let mut block = [0u8; 512];
+    blocks::make(shape, &mut block);
+    let slice = 11 + blocks::payload(shape) as usize;
+    let mut out = [0u8; 512];
+    let w = cuts::cut(first(&block, slice), setup, order, &mut out);
+    let o = block::open(first(&out, w.length as usize));
+    print(o.refusal, name);
+}
+
 // Opens the first `slice` bytes of a block with two numbers stored over it.
 fn judge(name: &[u8], shape: u32, slice: usize, at: usize, value: u32, also: usize, other: u32) {
     let mut block = [0u8; 512];

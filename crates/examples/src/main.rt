@@ -19,6 +19,7 @@ fn main() {
     asked();
     filled();
     cut();
+    written();
 }
 
 // 1
@@ -245,4 +246,28 @@ fn cut() {
     );
     asks::cuts(b"a cut with room for a byte less", 0, all, 0, 358);
     asks::cuts(b"a cut with just the room", 0, all, 0, 359);
+}
+
+// 14 was never given and is not used: what a cut writes breaks no rule
+fn written() {
+    let last = Setup {
+        sp: 268435455,
+        np: 0,
+        fp: 1,
+        sn: 1,
+    };
+    asks::opens_cut(b"what a cut with SP 268,435,455 writes", 0, last, 0);
+    asks::opens_cut(
+        b"what a cut of one segment of two writes",
+        1,
+        Setup {
+            sp: 1,
+            np: 0,
+            fp: 0,
+            sn: 2,
+        },
+        1,
+    );
+    asks::opens_cut(b"what a cut with a RIS offset writes", 2, last, 1);
+    asks::opens_cut(b"what a cut of two arrays writes", 3, last, 0);
 }

@@ -1,7 +1,7 @@
 -- A fill by the walk: its number is the walk's, then 13 (`number-refused`, `number-short`, `number-none`); a step hands out the next value (`handed`) until all are out (`stopped`).
 use mathlib.Core.Path.{_≡_, refl, sym, ap, _∙_}
-use mathlib.Core.Bool.{Bool, cond, _&&_, true}
-use mathlib.Core.List.{List, [], _∷_, _++_, append-assoc}
+use mathlib.Core.Bool.{Bool, cond}
+use mathlib.Core.List.{List}
 use mathlib.Core.Logic.{⊎-elim}
 use Prim.Native.Nat.{ℕ, zero, suc, _≤_, _<_}
 use native.Mathlib.Nat.{eq-or-lt-of-le}
@@ -11,10 +11,10 @@ use lib.Ieee.{Float}
 use borrow.Author.Tests.{le-leb, lt-leb}
 use Rattle.rules.specs.Numbers.{Bytes}
 use Rattle.rules.specs.Wave.{points}
-use Rattle.rules.specs.Rules.{first, rules, opened}
+use Rattle.rules.specs.Rules.{rules, opened}
 use Rattle.rules.specs.Points.{value, segmentRules, walkRefusal, fillRefusal}
 use Rattle.rules.specs.Cut.{orElse}
-use Rattle.rules.proofs.Tests.{numbered-append, first-append}
+use Rattle.rules.proofs.Tests.{first-last}
 use Rattle.rules.proofs.Opened.{rules-numbered}
 use Rattle.points.specs.declared.answers.Point as answers
 use Rattle.points.specs.declared.walk.Place.{Place}
@@ -42,21 +42,18 @@ module _ (s : List ℕ) (a n : ℕ) where
   -- ---- the number
 
   -- the walk's, then 13
-  by-walk : (room : ℕ) → fillRefusal s a n room ≡ orElse (walkRefusal s a n) (cond (leb M room && true) 0 13)
+  by-walk : (room : ℕ) → fillRefusal s a n room ≡ orElse (walkRefusal s a n) (cond (leb M room) 0 13)
   unfolding fillRefusal walkRefusal segmentRules
-  by-walk room =
-      let own : List (ℕ × List Bool) = segmentRules a n (opened s .head) in
-      let last : List (ℕ × List Bool) = (13, leb M room ∷ []) ∷ [] in
-      ap first (sym (append-assoc (rules s) own last)) ∙ first-append (rules s ++ own) last (numbered-append (rules s) own (rules-numbered s) (omega arith))
+  by-walk room = first-last (rules s) (segmentRules a n (opened s .head)) 13 (leb M room) (rules-numbered s) (omega arith)
 
   module _ (p : Place) (e : p ≡ placeOf s a n) where
     number-is : p .refusal ≡ walkRefusal s a n
     number-is = ap (λ (x : Place). x .refusal) e ∙ place-number s a n
 
     pub number-refused : (room : ℕ) → (p .refusal ≡ 0 → ⊥) → p .refusal ≡ fillRefusal s a n room
-    number-refused room h = go (p .refusal) h ∙ ap (λ (m : ℕ). orElse m (cond (leb M room && true) 0 13)) number-is ∙ sym (by-walk room)
+    number-refused room h = go (p .refusal) h ∙ ap (λ (m : ℕ). orElse m (cond (leb M room) 0 13)) number-is ∙ sym (by-walk room)
       where
-        go : (m : ℕ) → (m ≡ 0 → ⊥) → m ≡ orElse m (cond (leb M room && true) 0 13)
+        go : (m : ℕ) → (m ≡ 0 → ⊥) → m ≡ orElse m (cond (leb M room) 0 13)
         go zero h = absurd (h refl)
         go (suc m) h = refl
 
@@ -67,8 +64,8 @@ module _ (s : List ℕ) (a n : ℕ) where
       pub points-are : p .points ≡ M
       points-are = ap (λ (x : Place). x .points) (e ∙ begins s a n z)
 
-      last : (room : ℕ) (t : Bool) → leb M room ≡ t → cond (t && true) 0 13 ≡ fillRefusal s a n room
-      last room t q = sym (by-walk room ∙ ap (λ (m : ℕ). orElse m (cond (leb M room && true) 0 13)) z ∙ ap (λ (x : Bool). cond (x && true) 0 13) q)
+      last : (room : ℕ) (t : Bool) → leb M room ≡ t → cond t 0 13 ≡ fillRefusal s a n room
+      last room t q = sym (by-walk room ∙ ap (λ (m : ℕ). orElse m (cond (leb M room) 0 13)) z ∙ ap (λ (x : Bool). cond x 0 13) q)
 
       pub number-short : (room : ℕ) → room < p .points → 13 ≡ fillRefusal s a n room
       number-short room h = last room _ (lt-leb M room (omega (arith, points-are)))

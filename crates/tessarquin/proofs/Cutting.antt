@@ -7,7 +7,7 @@ use native.Mathlib.Omega.{arith}
 use lib.Dec.{leb}
 use lib.ListN.{length}
 use borrow.Author.Tests.{lt-leb}
-use Rattle.rules.specs.Numbers.{Bytes, allBytes, splice}
+use Rattle.rules.specs.Numbers.{allBytes, splice}
 use Rattle.rules.specs.Wave.{encode, points}
 use Rattle.rules.specs.Rules.{first, refusal, opened}
 use Rattle.rules.specs.Cut.{Setup, orElse, count, cut, cutBytes, cutRules, cutRefusal}
@@ -18,7 +18,7 @@ use Rattle.cuts.proofs.Calls as calls
 use Rattle.tessarquin.specs.Calls.{cutAnswer, cutNumber, cutLeft, cutAnswerLeft}
 use Rattle.tessarquin.proofs.Slices.{pair-length, number-own, number-none, left-as-it-was, left-written}
 
-module _ (s : List ℕ) (b : Bytes s) (c : Setup) (q : ℕ) where
+module _ (s : List ℕ) (c : Setup) (q : ℕ) where
   -- a cut has bytes
   some : 0 < length (cutBytes q c s)
   unfolding cutBytes
@@ -45,11 +45,11 @@ module _ (s : List ℕ) (b : Bytes s) (c : Setup) (q : ℕ) where
     pub without-room : length answer < 16 → (m : ℕ) → m ≡ cutRefusal q c s 0 → Answered m out answer
     unfolding cutNumber
     without-room h m e =
-        refused-by m (e ∙ cut-number s q c 0 b ∙ ap (λ (t : Bool). orElse before (cond t 0 13)) (lt-leb (length (cutBytes q c s)) 0 some)
+        refused-by m (e ∙ cut-number s q c 0 ∙ ap (λ (t : Bool). orElse before (cond t 0 13)) (lt-leb (length (cutBytes q c s)) 0 some)
         ∙ go before (leb (length (cutBytes q c s)) (length out))
         ∙ ap (λ (t : Bool). orElse (orElse before (cond (leb (length (cutBytes q c s)) (length out)) 0 13)) (cond t 0 13)) (sym (lt-leb (length (cutAnswer s c q)) (length answer) (omega (arith, answer-length))))
-        ∙ ap (λ (n : ℕ). orElse n (cond (leb (length (cutAnswer s c q)) (length answer)) 0 13)) (sym (cut-number s q c (length out) b)))
-        (λ z. never before (sym (ap (λ (t : Bool). orElse before (cond t 0 13)) (lt-leb (length (cutBytes q c s)) 0 some)) ∙ sym (cut-number s q c 0 b) ∙ sym e ∙ z))
+        ∙ ap (λ (n : ℕ). orElse n (cond (leb (length (cutAnswer s c q)) (length answer)) 0 13)) (sym (cut-number s q c (length out))))
+        (λ z. never before (sym (ap (λ (t : Bool). orElse before (cond t 0 13)) (lt-leb (length (cutBytes q c s)) 0 some)) ∙ sym (cut-number s q c 0) ∙ sym e ∙ z))
       where
         go : (n : ℕ) (t : Bool) → orElse n 13 ≡ orElse (orElse n (cond t 0 13)) 13
         go zero true = refl

@@ -14,6 +14,8 @@ struct Version {
     title: &'static str,
     /// Whether a cut of a cut shows it, with nothing to compare with.
     breaks_demand_3: bool,
+    /// Whether opening what a cut wrote shows it, with nothing to compare with.
+    breaks_a_rule: bool,
     calls: Calls,
 }
 
@@ -31,7 +33,8 @@ const CASES: u64 = 4000;
 const SEED: u64 = 1;
 
 fn main() -> ExitCode {
-    if let Some(found) = first_difference(LAW).or(first_broken_pair(LAW)) {
+    let right = first_difference(LAW).or(first_broken_pair(LAW)).or(first_broken_rule(LAW));
+    if let Some(found) = right {
         println!("the right version: {found}");
         return ExitCode::FAILURE;
     }
@@ -39,6 +42,7 @@ fn main() -> ExitCode {
     panic::set_hook(Box::new(|_| ()));
     let list = std::env::args().any(|argument| argument == "--list");
     let paired = |version: &&Version| version.breaks_demand_3;
+    let refused = |version: &&Version| version.breaks_a_rule;
     let all_caught = tell("caught", list, wrong::WRONG.iter(), first_difference);
     let pairs_caught = tell(
         "caught by demand 3 alone",
@@ -46,7 +50,13 @@ fn main() -> ExitCode {
         wrong::WRONG.iter().filter(paired),
         first_broken_pair,
     );
-    if all_caught && pairs_caught {
+    let rules_caught = tell(
+        "caught by opening what they cut",
+        list,
+        wrong::WRONG.iter().filter(refused),
+        first_broken_rule,
+    );
+    if all_caught && pairs_caught && rules_caught {
         ExitCode::SUCCESS
     } else {
         ExitCode::FAILURE
@@ -82,14 +92,28 @@ fn first_difference(mut calls: Calls) -> Option<String> {
     })
 }
 
-/// The first cut of a cut in which a version is at odds with itself. It is compared with itself, so
-/// that nothing but demand 3 can show it.
+/// The first cut of a cut that is not the combined cut.
 fn first_broken_pair(calls: Calls) -> Option<String> {
+    first_at_odds(calls, "cut of a cut", cases::cut_of_cut)
+}
+
+/// The first cut of an accepted block that breaks a rule.
+fn first_broken_rule(calls: Calls) -> Option<String> {
+    first_at_odds(calls, "cut opened", cases::cut_opened)
+}
+
+/// The first case in which a version is at odds with itself. It is compared with itself, so that
+/// nothing but what the case is made for can show it.
+fn first_at_odds(
+    calls: Calls,
+    kind: &str,
+    run: fn(&mut Checker, &mut Random) -> Result<(), Difference>,
+) -> Option<String> {
     let mut core = calls;
     let mut checker = Checker::new(&mut core, calls);
     (0..CASES).find_map(|case| {
-        let result = cases::cut_of_cut(&mut checker, &mut Random::new(SEED, case));
-        result.err().map(|difference| line(case, "cut of a cut", difference))
+        let result = run(&mut checker, &mut Random::new(SEED, case));
+        result.err().map(|difference| line(case, kind, difference))
     })
 }
 

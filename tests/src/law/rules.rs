@@ -3,7 +3,7 @@
 use super::descriptor::*;
 use super::numbers::{read_double, Order};
 
-/// The refusals, with the document's numbers. 14 is not among them: no cut can give it.
+/// The refusals, with the document's numbers. 14 was never given and is not used.
 #[derive(Clone, Copy, Debug, PartialEq, Eq)]
 pub enum Refusal {
     Frame = 1,

@@ -1,7 +1,5 @@
 -- Where the second slice is too short, the number of a cut without room; else refused as the cut is, or answered by c and the length.
 use native.Mathlib.Omega.{arith}
-use Rattle.rules.specs.Numbers.{Bytes}
-use Rattle.rules.proofs.Numbers.{below-index}
 use Rattle.tessarquin.specs.Calls.{setup}
 use Rattle.tessarquin.proofs.Cutting.{without-room, cut-refused, cut-answered}
 use borrow.Author.Needs.{needs}
@@ -13,17 +11,13 @@ use Rattle.cuts.proofs.cut.Reads as cut-reads
 use Rattle.tessarquin.proofs.put_pair.Reads as put-pair-reads
 use Rattle.tessarquin.proofs.without_room.Reads as without-room-reads
 
--- every element of a slice is a byte
-bytes : (c : tie.After-shared-slice-known) → Bytes (c .before .args .block .now)
-bytes c = below-index 256 (c .before .args .block .now) (λ i h. c .shared-slice-known .given i .fits)
-
 without-room-requires : tie.Need-without-room-requires
 without-room-requires c κs = search needs
 
 returns : tie.Need-returns
 returns c =
     let a = c .before .before .before .before .before .args in
-    let r = without-room (a .block .now) (bytes (c .before .before .before .before)) (setup (a .sp) (a .np) (a .fp) (a .sn)) (a .order) (a .out .now) (a .answer .now) (c .before .if1 .taken) (c .without-room .result) (c .without-room .ensures) in
+    let r = without-room (a .block .now) (setup (a .sp) (a .np) (a .fp) (a .sn)) (a .order) (a .out .now) (a .answer .now) (c .before .if1 .taken) (c .without-room .result) (c .without-room .ensures) in
     (r .0, (r .1, r .2))
 
 cut-requires : tie.Need-cut-requires
@@ -37,7 +31,7 @@ returns-2 c =
     let a = c .before .before .before .before .before .before .before .before .before .before .args in
     let w = c .before .before .before .before .cut in
     let r =
-    cut-refused (a .block .now) (bytes (c .before .before .before .before .before .before .before .before .before)) (setup (a .sp) (a .np) (a .fp) (a .sn)) (a .order) (a .out .now) (a .answer .now) (omega (arith, c .before .before .before .before .before .before .if1 .left)) (w .result) _ (record { answers = w .ensures .0; leaves = w .ensures .1 }) (c .if2 .taken) in
+    cut-refused (a .block .now) (setup (a .sp) (a .np) (a .fp) (a .sn)) (a .order) (a .out .now) (a .answer .now) (omega (arith, c .before .before .before .before .before .before .if1 .left)) (w .result) _ (record { answers = w .ensures .0; leaves = w .ensures .1 }) (c .if2 .taken) in
     (r .0, (r .1, r .2))
 
 cast-put-pair : tie.Need-cast-put-pair
@@ -60,7 +54,7 @@ returns-3 c =
     let a = c .before .before .before .before .before .before .before .before .before .before .before .before .before .before .before .before .args in
     let w = c .before .before .before .before .before .before .before .before .before .before .cut in
     let r =
-    cut-answered (a .block .now) (bytes (c .before .before .before .before .before .before .before .before .before .before .before .before .before .before .before)) (setup (a .sp) (a .np) (a .fp) (a .sn)) (a .order) (a .out .now) (a .answer .now) (omega (arith, c .before .before .before .before .before .before .before .before .before .before .before .before .if1 .left)) (w .result) _ (record { answers = w .ensures .0; leaves = w .ensures .1 }) (c .before .before .before .before .before .before .if2 .left) _ (c .before .before .put-pair .ensures) in
+    cut-answered (a .block .now) (setup (a .sp) (a .np) (a .fp) (a .sn)) (a .order) (a .out .now) (a .answer .now) (omega (arith, c .before .before .before .before .before .before .before .before .before .before .before .before .if1 .left)) (w .result) _ (record { answers = w .ensures .0; leaves = w .ensures .1 }) (c .before .before .before .before .before .before .if2 .left) _ (c .before .before .put-pair .ensures) in
     (r .0, (r .1, r .2))
 
 pub tessarquin-cut-spec : {M : Type 1} → statement M
