@@ -117,10 +117,10 @@ uint32_t tessarquin_fill(const uint8_t *block, size_t block_len,
  *     sn     of segment sn alone; 0 is all segments
  *     order  the byte order of the block written: 0 high byte first, 1 low byte first
  *
- * The block goes to out; room for the block that is cut is always enough. It obeys the rules: no call refuses it by
- * 1 to 8. The answer is two numbers: c, the points kept of each segment, and the bytes written to out. The kept points
- * have their values and times bit for bit, and a cut of a cut is the one cut with sp the product, fp = fp1 + sp1 * fp2,
- * np the c of the second and sn that of the first, or of the second where the first is 0.
+ * The block goes to out; room for the block that is cut is always enough. What is written obeys the rules: no call
+ * refuses it by 1 to 8. The answer is two numbers: c, the points kept of each segment, and the bytes written to out.
+ * The kept points have their values and times bit for bit, and a cut of a cut is the one cut with sp the product,
+ * fp = fp1 + sp1 * fp2, np the c of the second and sn that of the first, or of the second where the first is 0.
  */
 uint32_t tessarquin_cut(const uint8_t *block, size_t block_len,
                         uint32_t sp, uint32_t np, uint32_t fp, uint32_t sn, uint32_t order,

@@ -1,4 +1,5 @@
-// Runs the lines of "Checked examples" that no star marks, and the boundaries of each refusal: prints the number of each case and the case in words.
+// Runs the lines of "Checked examples" that no star marks and the boundaries of each refusal, and opens what cuts write: prints the number of each
+// case and the case in words.
 // Numbers are stored at places of the slice: a field's offset and 11.
 mod asks;
 mod blocks;
