@@ -67,6 +67,7 @@ enum tessarquin_refusal {
 
 /*
  * Opens a block: refusals 1 to 8, then 13 if answer_len is below TESSARQUIN_OPEN_BYTES.
+ * The two names are judged up to the zero byte that ends each; old bytes behind it are taken, and a cut copies them.
  *
  * The answer is five numbers:
  *     0  g, how many segments there are, at least 1

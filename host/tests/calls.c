@@ -176,13 +176,31 @@ static void test_cut(int order)
     unmap(b);
 }
 
+/* What stands behind the zero byte of a name is not judged, and is copied in either order. */
+static void test_behind_names(void)
+{
+    now = "old bytes behind the names";
+    static const uint32_t all[4] = {1, 0, 0, 0};
+    struct slice b = make(1, 0, 1, 2, 0);
+    memcpy(b.bytes + HEADER + 9, "OLD", 3);
+    memcpy(b.bytes + HEADER + 27, "BYTES", 5);
+    check(opens(b, 40) == 0, "open is refused");
+    for (uint32_t order = 0; order <= 1; order++) {
+        struct slice out = lend(359);
+        check(cut(b, all, order, out, 16) == 0, "a cut is refused");
+        check(memcmp(out.bytes + HEADER, b.bytes + HEADER, 32) == 0, "a cut writes other names");
+        give_back(out, 359);
+    }
+    unmap(b);
+}
+
 static void test_refusals(void)
 {
     now = "refusals";
     static const struct { size_t at; uint8_t byte; uint32_t refusal; } damage[] = {
         {0, '$', TESSARQUIN_FRAME}, {10, 'A', TESSARQUIN_FRAME}, {10, '9', TESSARQUIN_LENGTH},
-        {11, 'w', TESSARQUIN_NAME}, {36, '4', TESSARQUIN_NAME}, {45, 2, TESSARQUIN_FORM}, {46, 1, TESSARQUIN_FORM},
-        {43, 2, TESSARQUIN_FORM}, {47, 0, TESSARQUIN_TILE}, {55, 1, TESSARQUIN_TILE}, {127, 3, TESSARQUIN_COUNT},
+        {11, 'w', TESSARQUIN_NAME}, {19, '1', TESSARQUIN_NAME}, {36, '4', TESSARQUIN_NAME}, {37, '0', TESSARQUIN_NAME},
+        {45, 2, TESSARQUIN_FORM}, {46, 1, TESSARQUIN_FORM}, {43, 2, TESSARQUIN_FORM}, {47, 0, TESSARQUIN_TILE}, {55, 1, TESSARQUIN_TILE}, {127, 3, TESSARQUIN_COUNT},
         {151, 1, TESSARQUIN_COUNT}, {146, 0x80, TESSARQUIN_INDEX}, {150, 0x10, TESSARQUIN_INDEX}, {198, 0x7F, TESSARQUIN_FLOAT}};
     for (size_t i = 0; i < sizeof damage / sizeof *damage; i++) {
         struct slice b = make(1, 0, 2, 1, 0);
@@ -224,6 +242,7 @@ int main(void)
     test_short_slices();
     test_cut(0);
     test_cut(1);
+    test_behind_names();
     test_refusals();
     test_texts();
     printf("calls: %u checks held\n", checked);

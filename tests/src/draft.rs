@@ -3,6 +3,10 @@
 
 use crate::law::descriptor::*;
 use crate::law::numbers::{read_signed, store, Order};
+use std::ops::Range;
+
+/// What stands behind the zero bytes of DESCRIPTOR_NAME and TEMPLATE_NAME.
+pub const BEHIND_NAMES: [Range<usize>; 2] = [9..16, 27..32];
 
 #[derive(Clone)]
 pub struct Draft {
@@ -48,14 +52,22 @@ impl Draft {
         draft
     }
 
-    /// The fields that rules 3 to 5 fix: names, COMM_ORDER, WAVE_DESCRIPTOR and the RES lengths.
+    /// The fields that rules 3 to 5 fix: names up to their zero bytes, COMM_ORDER, WAVE_DESCRIPTOR
+    /// and the RES lengths.
     pub fn set_frame_fields(&mut self) {
-        self.set_text(DESCRIPTOR_NAME, b"WAVEDESC\0\0\0\0\0\0\0\0");
-        self.set_text(TEMPLATE_NAME, b"LECROY_2_3\0\0\0\0\0\0");
+        self.set_text(DESCRIPTOR_NAME, b"WAVEDESC\0");
+        self.set_text(TEMPLATE_NAME, b"LECROY_2_3\0");
         self.set_word(COMM_ORDER, if self.order == Order::LoFirst { 1 } else { 0 });
         self.set_length(WAVE_DESCRIPTOR, SIZE as i64);
         for reserved in [RES_DESC1, RES_ARRAY1, RES_ARRAY2, RES_ARRAY3] {
             self.set_length(reserved, 0);
+        }
+    }
+
+    /// Fills the names with zero bytes, as most instruments do.
+    pub fn fill_names(&mut self) {
+        for behind in BEHIND_NAMES {
+            self.head[behind].fill(0);
         }
     }
 

@@ -72,11 +72,15 @@ impl Shape {
         1 + usize::from(self.word)
     }
 
-    /// A right block of this shape. Fields that no rule judges hold random bytes.
+    /// A right block of this shape. Fields that no rule judges hold random bytes, and so does what
+    /// stands behind the zero bytes of the names in half of all blocks.
     pub fn draft(&self, random: &mut Random) -> Draft {
         let mut draft = Draft::plain(self.order);
         draft.head = random.bytes(SIZE);
         draft.set_frame_fields();
+        if random.once_in(2) {
+            draft.fill_names();
+        }
         draft.set_width(self.width());
         let count = self.segments() * self.points;
         draft.set_long(WAVE_ARRAY_COUNT, count);

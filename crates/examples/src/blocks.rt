@@ -1,6 +1,6 @@
 // Blocks to be judged: all low byte first, samples of one byte, WAVE_ARRAY_COUNT 2, gain 0.5, offset 0.25, interval 0.25, horizontal offset −1.
 // The payload's length of each shape: 0 the scope document's example, 1 with two segments and their trigger times, 2 with one RIS offset, 3 with
-// a second array, 4 with a trigger time and a RIS offset.
+// a second array, 4 with a trigger time and a RIS offset, 5 the example with old bytes behind the zero bytes of its names.
 pub fn payload(shape: u32) -> u32 {
     match shape {
         1 => 380,
@@ -27,6 +27,10 @@ pub fn make(shape: u32, out: &mut [u8; 512]) {
     }
     if shape == 4 {
         numbers::put_u32(16, 1, out, 11 + 48);
+    }
+    if shape == 5 {
+        copies::copy_bytes(b"OLD", 0, 3, out, 11 + 9);
+        copies::copy_bytes(b"BYTES", 0, 5, out, 11 + 27);
     }
 }
 

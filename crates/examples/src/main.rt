@@ -48,8 +48,19 @@ fn length() {
 // 3
 fn name() {
     asks::opens(b"a name wAVEDESC", 0, 11, 0x4556_4177);
-    asks::opens(b"a name with a byte behind it", 0, 19, 1);
+    asks::opens(b"a name WAVEDES", 0, 15, 0x0053_4544);
+    asks::opens(b"a name WAVEDESC1", 0, 19, 0x0000_0031);
+    asks::opens(b"a byte behind the name's zero byte", 0, 19, 0x0000_0100);
     asks::opens(b"a template LECROY_2_4", 0, 35, 0x0000_345f);
+    asks::opens(b"a template LECROY_2_", 0, 35, 0x3300_005f);
+    asks::opens(b"a template LECROY_2_30", 0, 35, 0x0030_335f);
+    asks::opens(b"a template with no zero byte", 0, 37, 0x3030_3030);
+    asks::opens(
+        b"a byte behind the template's zero byte",
+        0,
+        35,
+        0x0100_335f,
+    );
     asks::opens(b"a template with a byte at its end", 0, 39, 0x0100_0000);
 }
 
@@ -271,4 +282,10 @@ fn written() {
     );
     asks::opens_cut(b"what a cut with a RIS offset writes", 2, last, 1);
     asks::opens_cut(b"what a cut of two arrays writes", 3, last, 0);
+    asks::opens_cut(
+        b"what a cut with old bytes behind its names writes",
+        5,
+        last,
+        0,
+    );
 }

@@ -2,9 +2,10 @@
 
 use super::shapes::*;
 use super::{edge, Edge};
-use crate::draft::{nine_digits, Draft};
+use crate::draft::{nine_digits, Draft, BEHIND_NAMES};
 use crate::law::descriptor::*;
 use crate::random::Random;
+use std::ops::Range;
 
 pub static EDGES: &[Edge] = &[
     // 1 FRAME
@@ -66,12 +67,41 @@ pub static EDGES: &[Edge] = &[
         d.tail = [vec![10], r.bytes(more)].concat();
     }),
     // 3 NAME
-    edge(3, "a bit of the first name", any, |d, r| set_name_bytes(d, r, 0, 8)),
-    edge(3, "a bit of the second name", any, |d, r| set_name_bytes(d, r, 16, 26)),
-    edge(3, "a bit behind the first name", any, |d, r| set_name_bytes(d, r, 8, 16)),
-    edge(3, "a bit behind the second name", any, |d, r| set_name_bytes(d, r, 26, 32)),
-    edge(3, "byte right behind a name", any, |d, r| d.head[r.pick(&[8, 26])] = b' '),
-    edge(3, "last byte of a name", any, |d, r| d.head[r.pick(&[15, 31])] = 1),
+    edge(3, "a bit of the first name", any, |d, r| flip_bit(d, r, 0..8)),
+    edge(3, "a bit of the second name", any, |d, r| flip_bit(d, r, 16..26)),
+    edge(3, "a bit of the first name's zero byte", any, |d, r| flip_bit(d, r, 8..9)),
+    edge(3, "a bit of the second name's zero byte", any, |d, r| flip_bit(d, r, 26..27)),
+    edge(3, "a name one character longer", any, |d, r| {
+        let zero = r.pick(&[8, 26]);
+        d.head[zero] = r.pick(b" 03Cx");
+        d.head[zero + 1] = 0;
+    }),
+    edge(3, "a name with no zero byte", any, |d, r| {
+        let behind = BEHIND_NAMES[r.below(2)].clone();
+        set_old_bytes(d, r, behind.start - 1..behind.end);
+    }),
+    edge(3, "a name one character shorter", any, |d, r| d.head[r.pick(&[7, 25])] = 0),
+    edge(3, "a name equal only up to a zero byte", any, |d, r| {
+        let (first, second) = (r.below(8), 16 + r.below(10));
+        d.head[r.pick(&[first, second])] = 0;
+    }),
+    edge(0, "names filled with zero bytes", any, |d, _| d.fill_names()),
+    edge(0, "old bytes behind the first name's zero byte", any, |d, r| {
+        d.fill_names();
+        set_old_bytes(d, r, BEHIND_NAMES[0].clone());
+    }),
+    edge(0, "old bytes behind the second name's zero byte", any, |d, r| {
+        d.fill_names();
+        set_old_bytes(d, r, BEHIND_NAMES[1].clone());
+    }),
+    edge(0, "one byte right behind a name's zero byte", any, |d, r| {
+        d.fill_names();
+        d.head[r.pick(&[9, 27])] = r.pick(b"\x01 0\xFF");
+    }),
+    edge(0, "one byte at the end of a name's sixteen", any, |d, r| {
+        d.fill_names();
+        d.head[r.pick(&[15, 31])] = 1;
+    }),
     edge(3, "another template", any, |d, r| d.head[25] = r.pick(b"0124")),
     edge(3, "names change places", any, |d, _| d.head[..32].rotate_left(16)),
     edge(3, "small letters", any, |d, _| d.head[..16].make_ascii_lowercase()),
@@ -109,9 +139,16 @@ fn set_last_byte(draft: &mut Draft, byte: u8) {
     }
 }
 
-fn set_name_bytes(draft: &mut Draft, random: &mut Random, from: usize, to: usize) {
-    let at = from + random.below(to - from);
+fn flip_bit(draft: &mut Draft, random: &mut Random, of: Range<usize>) {
+    let at = of.start + random.below(of.len());
     draft.head[at] ^= 1 << random.below(8);
+}
+
+/// Puts bytes other than zero there.
+fn set_old_bytes(draft: &mut Draft, random: &mut Random, there: Range<usize>) {
+    for byte in &mut draft.head[there] {
+        *byte = 1 + random.below(255) as u8;
+    }
 }
 
 fn set_comm_order(draft: &mut Draft, bytes: [u8; 2]) {

@@ -111,11 +111,10 @@ fn name(payload: &[u8]) -> Result<(), Refusal> {
     refuse(!named(&payload[template_name..], b"LECROY_2_3"), Refusal::Name)
 }
 
-/// Whether the first 16 bytes are the name, filled with zero bytes.
+/// Whether the name's characters stand there, followed by one zero byte. What stands behind it is
+/// not judged.
 fn named(bytes: &[u8], name: &[u8]) -> bool {
-    let mut filled = [0; 16];
-    filled[..name.len()].copy_from_slice(name);
-    bytes[..16] == filled
+    bytes.starts_with(name) && bytes[name.len()] == 0
 }
 
 /// 4 FORM: COMM_ORDER is judged as two bytes and then gives the order of all else.
