@@ -200,8 +200,9 @@ static void test_refusals(void)
     static const struct { size_t at; uint8_t byte; uint32_t refusal; } damage[] = {
         {0, '$', TESSARQUIN_FRAME}, {10, 'A', TESSARQUIN_FRAME}, {10, '9', TESSARQUIN_LENGTH},
         {11, 'w', TESSARQUIN_NAME}, {19, '1', TESSARQUIN_NAME}, {36, '4', TESSARQUIN_NAME}, {37, '0', TESSARQUIN_NAME},
-        {45, 2, TESSARQUIN_FORM}, {46, 1, TESSARQUIN_FORM}, {43, 2, TESSARQUIN_FORM}, {47, 0, TESSARQUIN_TILE}, {55, 1, TESSARQUIN_TILE}, {127, 3, TESSARQUIN_COUNT},
-        {151, 1, TESSARQUIN_COUNT}, {146, 0x80, TESSARQUIN_INDEX}, {150, 0x10, TESSARQUIN_INDEX}, {198, 0x7F, TESSARQUIN_FLOAT}};
+        {45, 2, TESSARQUIN_FORM}, {46, 1, TESSARQUIN_FORM}, {43, 2, TESSARQUIN_FORM}, {47, 0, TESSARQUIN_TILE},
+        {55, 1, TESSARQUIN_TILE}, {127, 3, TESSARQUIN_COUNT}, {151, 1, TESSARQUIN_COUNT}, {146, 0x80, TESSARQUIN_INDEX},
+        {150, 0x10, TESSARQUIN_INDEX}, {198, 0x7F, TESSARQUIN_FLOAT}};
     for (size_t i = 0; i < sizeof damage / sizeof *damage; i++) {
         struct slice b = make(1, 0, 2, 1, 0);
         b.bytes[damage[i].at] = damage[i].byte;
