@@ -13,7 +13,7 @@ use borrow.Author.Tests.{ltb-true, ltb-false, leb-true, eqb-true, lt-leb, le-leb
 use Rattle.rules.specs.Numbers.{Bytes, number, low, pieces, upFrom}
 use Rattle.rules.specs.Template.{template, widthAt, fields}
 use Rattle.rules.specs.Wave.{Wave, headOf, parts, waveOf, decode}
-use Rattle.rules.specs.Rules.{all, first, every?, digit?, payloadStart, stated, payload, frame, sized, named, formed, tiled, counted, placed, measured, inner, rules, refusal, opened}
+use Rattle.rules.specs.Rules.{all, first, every?, digit?, digitCount, stated, payloadStart, payload, frame, sized, named, formed, tiled, counted, placed, measured, inner, rules, refusal, opened}
 use Rattle.rules.specs.Points.{value, sample, time, ruleOf}
 use Rattle.rules.proofs.Tests.{all-each, first-alike}
 use Rattle.rules.proofs.Facts.{Sized, sized-says, sized-there, tiled-says}
@@ -48,12 +48,23 @@ module _ (s t : List ℕ) (a : Alike s t) where
   head-byte : (i : ℕ) → i < payloadStart s + 9 → getD t i 0 ≡ getD s i 0
   head-byte i h = a .same-byte i (behind-low (i - payloadStart s) (omega arith))
 
-  digits-alike : take 9 (drop 2 t) ≡ take 9 (drop 2 s)
-  digits-alike =
-      ext-getD 0 (take 9 (drop 2 t)) (take 9 (drop 2 s))
-      (length-take 9 (drop 2 t) ∙ ap (min 9) (length-drop 2 t ∙ ap (λ (n : ℕ). n - 2) (a .same-length) ∙ sym (length-drop 2 s)) ∙ sym (length-take 9 (drop 2 s)))
-      (λ i l. let h : i < 9 = omega (arith, length-take 9 (drop 2 t)) in
-      getD-take 9 (drop 2 t) i 0 h ∙ getD-drop 2 t i 0 ∙ head-byte (2 + i) (omega arith) ∙ sym (getD-take 9 (drop 2 s) i 0 h ∙ getD-drop 2 s i 0))
+  count-alike : digitCount t ≡ digitCount s
+  count-alike = ap (λ (b : ℕ). b - 48) (head-byte 1 (omega arith))
+
+  digits-alike : take (digitCount t) (drop 2 t) ≡ take (digitCount s) (drop 2 s)
+  digits-alike = ap (λ (n : ℕ). take n (drop 2 t)) count-alike ∙ ext-getD 0 (take d (drop 2 t)) (take d (drop 2 s)) long same
+    where
+      d : ℕ
+      d = digitCount s
+
+      long : length (take d (drop 2 t)) ≡ length (take d (drop 2 s))
+      long =
+          length-take d (drop 2 t) ∙ ap (min d) (length-drop 2 t ∙ ap (λ (n : ℕ). n - 2) (a .same-length) ∙ sym (length-drop 2 s)) ∙ sym (length-take d (drop 2 s))
+
+      same : (i : ℕ) → i < length (take d (drop 2 t)) → getD (take d (drop 2 t)) i 0 ≡ getD (take d (drop 2 s)) i 0
+      same i l =
+          let h : i < d = omega (arith, length-take d (drop 2 t)) in
+          getD-take d (drop 2 t) i 0 h ∙ getD-drop 2 t i 0 ∙ head-byte (2 + i) (omega arith) ∙ sym (getD-take d (drop 2 s) i 0 h ∙ getD-drop 2 s i 0)
 
   stated-alike : stated t ≡ stated s
   unfolding stated
@@ -64,19 +75,24 @@ module _ (s t : List ℕ) (a : Alike s t) where
   frame-alike =
       let b0 : getD t 0 0 ≡ getD s 0 0 = head-byte 0 (omega arith) in
       let b1 : getD t 1 0 ≡ getD s 1 0 = head-byte 1 (omega arith) in
-      λ i. leb 11 (a .same-length i) ∷ eqb (b0 i) 35 ∷ eqb (b1 i) 57 ∷ every? digit? (digits-alike i) ∷ []
+      λ i. leb 2 (a .same-length i)
+      ∷ eqb (b0 i) 35
+      ∷ (leb 49 (b1 i) && leb (b1 i) 57)
+      ∷ leb (2 + count-alike i) (a .same-length i)
+      ∷ every? digit? (digits-alike i)
+      ∷ []
 
   sized-alike : all (sized t) ≡ all (sized s)
   unfolding sized
-  sized-alike = (λ i. all (tests (stated-alike i) (a .same-length i) (getD t (payloadStart s + stated-alike i) 0))) ∙ go (leb 346 (stated s)) refl
+  sized-alike = (λ i. all (tests (2 + count-alike i) (stated-alike i) (a .same-length i) (getD t (2 + count-alike i + stated-alike i) 0))) ∙ go (leb 346 (stated s)) refl
     where
-      tests : ℕ → ℕ → ℕ → List Bool
-      tests l n x = leb 346 l ∷ leb l 16777216 ∷ (eqb n (payloadStart s + l) || eqb n (payloadStart s + l + 1) && eqb x 10) ∷ []
+      tests : ℕ → ℕ → ℕ → ℕ → List Bool
+      tests at l n x = leb 346 l ∷ leb l 16777216 ∷ (eqb n (at + l) || eqb n (at + l + 1) && eqb x 10) ∷ []
 
-      go : (b : Bool) → leb 346 (stated s) ≡ b → all (tests (stated s) (length s) (getD t (payloadStart s + stated s) 0)) ≡ all (tests (stated s) (length s) (getD s (payloadStart s + stated s) 0))
+      go : (b : Bool) → leb 346 (stated s) ≡ b → all (tests (payloadStart s) (stated s) (length s) (getD t (payloadStart s + stated s) 0)) ≡ all (tests (payloadStart s) (stated s) (length s) (getD s (payloadStart s + stated s) 0))
       go true e =
           let h : 346 ≤ stated s = leb-true 346 (stated s) e in
-          ap (λ (x : ℕ). all (tests (stated s) (length s) x)) (a .same-byte (payloadStart s + stated s) (behind-high (payloadStart s + stated s - payloadStart s) (omega arith)))
+          ap (λ (x : ℕ). all (tests (payloadStart s) (stated s) (length s) x)) (a .same-byte (payloadStart s + stated s) (behind-high (payloadStart s + stated s - payloadStart s) (omega arith)))
       go false e = rw e
 
   -- ---- the payload
@@ -90,7 +106,7 @@ module _ (s t : List ℕ) (a : Alike s t) where
     there = sized-there s z
 
     there-too : payloadStart t + stated t ≤ length t
-    there-too = omega (arith, there, stated-alike, a .same-length)
+    there-too = omega (arith, there, count-alike, stated-alike, a .same-length)
 
     length-alike : length (payload t) ≡ length (payload s)
     length-alike = payload-length t there-too ∙ stated-alike ∙ sym (payload-length s there)
@@ -99,6 +115,7 @@ module _ (s t : List ℕ) (a : Alike s t) where
     byte-alike k h e =
         let back : payloadStart s + k - payloadStart s ≡ k = omega arith in
         payload-byte t there-too k (omega (arith, stated-alike))
+        ∙ ap (λ (n : ℕ). getD t (2 + n + k) 0) count-alike
         ∙ a .same-byte (payloadStart s + k) (ap behind back ∙ e)
         ∙ sym (payload-byte s there k h)
 

@@ -1,0 +1,65 @@
+-- A header's answer by the tests of rule 1 in the order in which the code judges them: two bytes, `#` and d, d bytes more, and that these are digits.
+use mathlib.Core.Path.{_≡_, refl, sym, ap, _∙_}
+use mathlib.Core.Bool.{Bool, true, false, cond, _&&_}
+use mathlib.Core.List.{List}
+use Prim.Native.Nat.{ℕ, _≤_, _<_}
+use native.Mathlib.Omega.{arith}
+use lib.ListN.{length, getD, take, drop}
+use lib.Dec.{leb, eqb}
+use borrow.Author.Tests.{leb-true, lt-leb, le-leb}
+use Rattle.rules.specs.Rules.{all, every?, digit?, digitCount, stated, payloadStart, frame}
+use Rattle.rules.proofs.Tests.{and-true}
+use Rattle.numbers.proofs.Bools.{and-assoc, and-end}
+use Rattle.frames.specs.declared.Header.{Header}
+use Rattle.frames.specs.Headers.{framedAs, unframedAs, headerOf}
+use Rattle.frames.proofs.Digits.{none}
+
+-- `#` and a digit from 1 to 9
+abbrev pub started : List ℕ → Bool
+started s = (eqb (getD s 0 0) 35 && leb 49 (getD s 1 0)) && leb (getD s 1 0) 57
+
+pub started-says : (s : List ℕ) → started s ≡ true → (49 ≤ getD s 1 0) × (getD s 1 0 ≤ 57)
+started-says s e =
+    let h : Bool = eqb (getD s 0 0) 35 in
+    let a : Bool = leb 49 (getD s 1 0) in
+    let b : Bool = leb (getD s 1 0) 57 in
+    (leb-true 49 (getD s 1 0) (and-true h a (and-true (h && a) b e .0) .1), leb-true (getD s 1 0) 57 (and-true (h && a) b e .1))
+
+module _ (s : List ℕ) where
+  digits-good : Bool
+  digits-good = every? digit? (take (digitCount s) (drop 2 s))
+
+  header-joined : headerOf s ≡ cond (leb 2 (length s) && (started s && (leb (payloadStart s) (length s) && digits-good))) (framedAs s) unframedAs
+  unfolding headerOf frame digits-good
+  header-joined = simp (and-assoc, and-end)
+
+  pub short-is : length s < 2 → headerOf s ≡ unframedAs
+  short-is h = header-joined ∙ rw (lt-leb 2 (length s) h)
+
+  pub start-is : started s ≡ false → headerOf s ≡ unframedAs
+  start-is e = header-joined ∙ rw (e, none (leb 2 (length s)))
+
+  pub cut-is : length s < payloadStart s → headerOf s ≡ unframedAs
+  cut-is h = header-joined ∙ rw (lt-leb (payloadStart s) (length s) h, none (started s), none (leb 2 (length s)))
+
+  pub digits-are : started s ≡ true → payloadStart s ≤ length s → cond (every? digit? (take (digitCount s) (drop 2 s))) (framedAs s) unframedAs ≡ headerOf s
+  digits-are e h = sym (header-joined ∙ (unfold digits-good in rw (le-leb 2 (length s) (omega arith), e, le-leb (payloadStart s) (length s) h)))
+
+  -- the answer, with the bounds that it is used by
+  pub unframed-is : (h : Header) → h ≡ unframedAs → headerOf s ≡ unframedAs → (h ≡ headerOf s) × ((h .start ≤ 11) × (h .length < 1000000000))
+  unframed-is h e u = (e ∙ sym u, (rw e (omega arith), rw e (omega arith)))
+
+-- ---- what a header says to those who asked for it
+
+module _ (s : List ℕ) (h : Header) (e : h ≡ headerOf s) where
+  framed-by : (b : Bool) → cond b (framedAs s) unframedAs .framed ≡ b
+  framed-by true = refl
+  framed-by false = refl
+
+  pub framed-is : h .framed ≡ all (frame s)
+  unfolding headerOf
+  framed-is = ap (λ (x : Header). x .framed) e ∙ framed-by (all (frame s))
+
+  pub framed-says : all (frame s) ≡ true → h ≡ framedAs s
+  unfolding headerOf
+  framed-says k = e ∙ ap (λ (b : Bool). cond b (framedAs s) unframedAs) k

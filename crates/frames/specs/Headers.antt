@@ -1,0 +1,17 @@
+-- What a header says. Definitions only.
+use mathlib.Core.Bool.{Bool, true, false, cond}
+use mathlib.Core.List.{List}
+use Prim.Native.Nat.{ℕ}
+use Rattle.rules.specs.Rules.{all, payloadStart, stated, frame}
+use Rattle.frames.specs.declared.Header.{Header}
+
+-- of one that keeps rule 1: where the payload starts, and L
+abbrev pub framedAs : List ℕ → Header
+framedAs s = record { framed = true; start = payloadStart s; length = stated s }
+
+-- of one that breaks it: zeros
+abbrev pub unframedAs : Header
+unframedAs = record { framed = false; start = 0; length = 0 }
+
+unfoldable pub headerOf : List ℕ → Header
+headerOf s = cond (all (frame s)) (framedAs s) unframedAs
