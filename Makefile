@@ -6,7 +6,7 @@
 SHELL := /bin/bash
 .SHELLFLAGS := -eu -o pipefail -c
 MAKEFLAGS += --no-print-directory
-.PHONY: list test archive host checked compare soak bench fmt tools
+.PHONY: list test archive host checked listed compare soak bench fmt tools
 
 # The compiled code is for x86-64: elsewhere it is linked by a cross compiler and run by an emulator.
 ifeq ($(shell uname -m),x86_64)
@@ -65,10 +65,16 @@ checked: host
 	@$(CC) $(CFLAGS) $(WRAPPED:%=-Wl,--wrap=%) $(HOST) host/tests/faults.c $(ARCHIVE) -o target/host/faulty
 	@$(CC) $(CFLAGS) host/tests/made.c -o target/host/made
 	@host/tests/run '$(RUN)' target/host crates/listing/stdin
+	@$(MAKE) listed
 	@cargo test -q --lib $(CARGO)
 	@$(MAKE) compare
 	@target/tests/release/slips
 	@target/tests/release/compare --cases 40000 --seed 1 -- $(RUN) target/tests/runner
+
+# The listing of the example's payload is the same under every header that holds its length.
+listed: tools
+	@rt check listing >target/listing.log 2>&1 || { cat target/listing.log; exit 1; }
+	@for d in 3 4 5 6 7 8 9; do { printf '#%d%0*d' $$d $$d 348; tail -c +12 crates/listing/stdin; } | $(LISTING) | cmp - crates/listing/stdout; done
 
 # The independent reader and the runner that makes the calls.
 compare: tools archive

@@ -80,12 +80,18 @@ static struct opened open_block(const char *name, struct block b)
         (uint32_t)tessarquin_number(answer, 4)};
 }
 
-/* The descriptor of an accepted block stands behind the header: its fields can be read where they are. */
-enum { DESCRIPTOR = 11, USER_TEXT_LENGTH = 40, INSTRUMENT_NAME = 76, TRACE_LABEL = 96, VERTUNIT = 196, HORUNIT = 244, USER_TEXT = 346 };
+/* The descriptor of an accepted block stands behind the header, and its fields can be read where they are. */
+enum { USER_TEXT_LENGTH = 40, INSTRUMENT_NAME = 76, TRACE_LABEL = 96, VERTUNIT = 196, HORUNIT = 244, USER_TEXT = 346 };
+
+/* The header of an accepted block is '#', a digit d, and d digits. */
+static const uint8_t *descriptor(struct block b)
+{
+    return b.bytes + 2 + (b.bytes[1] - '0');
+}
 
 static uint32_t long_at(struct block b, struct opened o, size_t at)
 {
-    const uint8_t *p = b.bytes + DESCRIPTOR + at;
+    const uint8_t *p = descriptor(b) + at;
     if (o.order == 0)
         return (uint32_t)p[0] << 24 | (uint32_t)p[1] << 16 | (uint32_t)p[2] << 8 | p[3];
     return (uint32_t)p[3] << 24 | (uint32_t)p[2] << 16 | (uint32_t)p[1] << 8 | p[0];
@@ -105,7 +111,7 @@ static void print_text(const uint8_t *text, size_t length)
 /* A field of `most` bytes, up to its first zero byte. */
 static void print_field(const char *name, struct block b, size_t at, size_t most)
 {
-    const uint8_t *text = b.bytes + DESCRIPTOR + at;
+    const uint8_t *text = descriptor(b) + at;
     const uint8_t *end = memchr(text, 0, most);
     printf("%-12s", name);
     print_text(text, end ? (size_t)(end - text) : most);
@@ -121,7 +127,7 @@ static void show(const char *name)
     print_field("instrument", b, INSTRUMENT_NAME, 16);
     print_field("label", b, TRACE_LABEL, 16);
     printf("%-12s", "user text");
-    print_text(b.bytes + DESCRIPTOR + USER_TEXT, text);
+    print_text(descriptor(b) + USER_TEXT, text);
     printf("\n%-12s%u\n", "segments", (unsigned)o.segments);
     printf("%-12s%u in each segment\n", "points", (unsigned)o.points);
     printf("%-12s%u\n", "arrays", (unsigned)o.arrays);
@@ -149,13 +155,13 @@ static void print_point(uint32_t segment, uint32_t k, double time, double value)
 }
 
 /* A segment as a block of its own: its points have the same bits, and each question judges one trigger time, not all. */
-static struct block cut_out(struct block b, struct opened o, uint32_t segment, uint8_t *room)
+static struct block cut_out(struct block b, struct opened o, uint32_t segment, uint8_t *out, size_t room)
 {
     uint8_t answer[TESSARQUIN_CUT_BYTES];
-    uint32_t refusal = tessarquin_cut(b.bytes, b.length, 1, 0, 0, segment, o.order, room, b.length, answer, sizeof answer);
+    uint32_t refusal = tessarquin_cut(b.bytes, b.length, 1, 0, 0, segment, o.order, out, room, answer, sizeof answer);
     if (refusal)
         refused("the segment", refusal);
-    return (struct block){room, (size_t)tessarquin_number(answer, 1)};
+    return (struct block){out, (size_t)tessarquin_number(answer, 1)};
 }
 
 /* The points of a block of one segment, which is segment `segment` of the file. */
@@ -183,9 +189,10 @@ static void points(const char *name, uint32_t array, uint32_t segment)
     uint32_t refusal = tessarquin_point(b.bytes, b.length, array, first, 0, answer, sizeof answer);
     if (refusal)
         refused("the segment", refusal);
-    uint8_t *room = memory(b.length), *values = memory((size_t)o.points * TESSARQUIN_VALUE_BYTES);
+    size_t room = b.length + TESSARQUIN_CUT_MORE;
+    uint8_t *out = memory(room), *values = memory((size_t)o.points * TESSARQUIN_VALUE_BYTES);
     for (uint32_t n = first; n <= last; n++)
-        print_segment(cut_out(b, o, n, room), o, array, n, values);
+        print_segment(cut_out(b, o, n, out, room), o, array, n, values);
 }
 
 /* ---- cuts */
@@ -199,9 +206,10 @@ static void cut(const char *name, const char *to, struct setup s, int replace)
     struct file file = read_file(name, READ_MOST);
     struct block b = block_in(name, file);
     open_block(name, b);
-    uint8_t *out = memory(b.length);
+    size_t room = b.length + TESSARQUIN_CUT_MORE;
+    uint8_t *out = memory(room);
     uint8_t answer[TESSARQUIN_CUT_BYTES];
-    uint32_t refusal = tessarquin_cut(b.bytes, b.length, s.sp, s.np, s.fp, s.sn, s.order, out, b.length, answer, sizeof answer);
+    uint32_t refusal = tessarquin_cut(b.bytes, b.length, s.sp, s.np, s.fp, s.sn, s.order, out, room, answer, sizeof answer);
     if (refusal)
         refused("the cut", refusal);
     size_t length = (size_t)tessarquin_number(answer, 1);

@@ -3,6 +3,8 @@
  *
  * A block is what an oscilloscope answers to WF? with COMM_FORMAT DEF9: the bytes "#9", nine decimal digits that
  * give the payload's length, the payload (346 bytes of descriptor, texts, tables, samples), and at most one new line.
+ * Loggers write shorter headers of the same kind: '#', a digit d from 1 to 9, and d digits. All are taken, leading
+ * zeros too, and none changes an answer. The payload starts 2 + d bytes behind the '#'.
  * Whatever stands before the '#' is for the caller to remove.
  *
  * Four calls, each proved to meet its description for every input:
@@ -40,7 +42,7 @@ extern "C" {
 /* Why a call was refused. The smallest number that applies is the one returned. */
 enum tessarquin_refusal {
     TESSARQUIN_OK = 0,
-    TESSARQUIN_FRAME = 1,    /* it does not start with #9 and nine digits */
+    TESSARQUIN_FRAME = 1,    /* it does not start with #, a digit d from 1 to 9, and d digits */
     TESSARQUIN_LENGTH = 2,   /* the length in the header is not that of the data, or is out of range */
     TESSARQUIN_NAME = 3,     /* it is not a WAVEDESC block of the template LECROY_2_3 */
     TESSARQUIN_FORM = 4,     /* COMM_ORDER or COMM_TYPE is neither of its two values */
@@ -56,8 +58,12 @@ enum tessarquin_refusal {
     /* 14 was never given and is not used: what a cut writes obeys the rules */
 };
 
-/* The longest block: header, 16,777,216 bytes of payload, and a new line. A cut is never longer than its block, and never has the new line. */
+/* The longest block: header, 16,777,216 bytes of payload, and a new line. */
 #define TESSARQUIN_BLOCK_MOST 16777228u
+
+/* A cut's payload is never longer than its block's, and its header is always "#9" and nine digits. So this many bytes
+   more than the block has are room for any cut of it. */
+#define TESSARQUIN_CUT_MORE 6u
 
 /* How long the answers are. */
 #define TESSARQUIN_OPEN_BYTES 40u
@@ -118,8 +124,9 @@ uint32_t tessarquin_fill(const uint8_t *block, size_t block_len,
  *     sn     of segment sn alone; 0 is all segments
  *     order  the byte order of the block written: 0 high byte first, 1 low byte first
  *
- * The block goes to out; room for the block that is cut is always enough. What is written obeys the rules: no call
- * refuses it by 1 to 8. The answer is two numbers: c, the points kept of each segment, and the bytes written to out.
+ * The block goes to out, with the header "#9" and no new line; room of block_len + TESSARQUIN_CUT_MORE is always
+ * enough. What is written obeys the rules: no call refuses it by 1 to 8. The answer is two numbers: c, the points kept
+ * of each segment, and the bytes written to out.
  * The kept points have their values and times bit for bit, and a cut of a cut is the one cut with sp the product,
  * fp = fp1 + sp1 * fp2, np the c of the second and sn that of the first, or of the second where the first is 0.
  */
@@ -150,7 +157,7 @@ static inline const char *tessarquin_text(uint32_t refusal)
 {
     static const char *const texts[] = {
         "taken",
-        "it does not start with #9 and nine digits",
+        "it does not start with #, a digit d from 1 to 9, and d digits",
         "the length in the header is not that of the data, or is out of range",
         "it is not a WAVEDESC block of the template LECROY_2_3",
         "COMM_ORDER or COMM_TYPE is neither of its two values",

@@ -17,6 +17,7 @@ struct shape {
     int trigger;
 };
 
+/* The header of these blocks is `#9`. */
 enum { HEADER = 11, DESCRIPTOR_BYTES = 346 };
 
 static inline size_t trigger_bytes(struct shape s) { return s.trigger ? 16 * (size_t)s.segments : 0; }

@@ -194,11 +194,48 @@ static void test_behind_names(void)
     unmap(b);
 }
 
+/* The same payload with d digits: the same answers, the same cut, and room enough in six bytes more. */
+static void test_headers(void)
+{
+    now = "headers from #3 to #9";
+    static const uint32_t all[4] = {1, 0, 0, 0};
+    struct slice nine = make(0, 1, 2, 5, 1);
+    size_t payload = nine.length - HEADER;
+    struct slice whole = lend(nine.length);
+    check(cut(nine, all, 1, whole, 16) == 0, "a cut is refused");
+    for (int d = 3; d <= 9; d++) {
+        char header[HEADER + 21];
+        size_t start = (size_t)snprintf(header, sizeof header, "#%d%0*zu", d, d, payload);
+        check(start == 2 + (size_t)d, "the header has another length");
+        struct slice b = lend(start + payload), out = lend(b.length + TESSARQUIN_CUT_MORE);
+        memcpy(b.bytes, header, start);
+        memcpy(b.bytes + start, nine.bytes + HEADER, payload);
+        check(opens(b, 40) == 0 && answers[0] == 2 && answers[1] == 5 && answers[2] == 1 && answers[3] == 0 && answers[4] == 1, "open");
+        for (uint32_t k = 0; k < 5; k++) {
+            check(point(nine, 1, 2, k, 16) == 0, "a point is refused");
+            uint64_t value = answers[0], time = answers[1];
+            check(point(b, 1, 2, k, 16) == 0 && answers[0] == value && answers[1] == time, "a point has other bits");
+        }
+        check(cut(b, all, 1, out, 16) == 0 && answers[1] == whole.length, "a cut is refused");
+        check(memcmp(out.bytes, whole.bytes, whole.length) == 0, "a cut writes other bytes");
+        give_back(out, whole.length);
+        struct slice alone = {b.pages, b.bytes + payload, b.size, start};
+        memmove(alone.bytes, header, start);
+        check(opens(alone, 40) == TESSARQUIN_LENGTH, "a header alone");
+        memmove(alone.bytes + 1, header, start - 1);
+        alone.bytes++, alone.length--;
+        check(opens(alone, 40) == TESSARQUIN_FRAME, "a header without its last digit");
+        unmap(b);
+    }
+    give_back(whole, whole.length);
+    unmap(nine);
+}
+
 static void test_refusals(void)
 {
     now = "refusals";
     static const struct { size_t at; uint8_t byte; uint32_t refusal; } damage[] = {
-        {0, '$', TESSARQUIN_FRAME}, {10, 'A', TESSARQUIN_FRAME}, {10, '9', TESSARQUIN_LENGTH},
+        {0, '$', TESSARQUIN_FRAME}, {1, '0', TESSARQUIN_FRAME}, {1, ':', TESSARQUIN_FRAME}, {10, 'A', TESSARQUIN_FRAME}, {10, '9', TESSARQUIN_LENGTH},
         {11, 'w', TESSARQUIN_NAME}, {19, '1', TESSARQUIN_NAME}, {36, '4', TESSARQUIN_NAME}, {37, '0', TESSARQUIN_NAME},
         {45, 2, TESSARQUIN_FORM}, {46, 1, TESSARQUIN_FORM}, {43, 2, TESSARQUIN_FORM}, {47, 0, TESSARQUIN_TILE},
         {55, 1, TESSARQUIN_TILE}, {127, 3, TESSARQUIN_COUNT}, {151, 1, TESSARQUIN_COUNT}, {146, 0x80, TESSARQUIN_INDEX},
@@ -244,6 +281,7 @@ int main(void)
     test_cut(0);
     test_cut(1);
     test_behind_names();
+    test_headers();
     test_refusals();
     test_texts();
     printf("calls: %u checks held\n", checked);

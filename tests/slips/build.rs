@@ -9,6 +9,7 @@ const LAW: &str = "../src/law";
 const LIST: &str = "wrong.txt";
 const BREAKS_DEMAND_3: &str = "breaks demand 3";
 const BREAKS_A_RULE: &str = "breaks a rule";
+const HANGS_ON_HEADER: &str = "hangs on the header";
 
 /// One entry of the list; a line left out has no wrong one.
 struct Entry {
@@ -16,6 +17,7 @@ struct Entry {
     file: String,
     breaks_demand_3: bool,
     breaks_a_rule: bool,
+    hangs_on_header: bool,
     right: String,
     wrong: String,
 }
@@ -31,11 +33,11 @@ fn main() {
         let folder = out.join(format!("wrong_{number}"));
         write_copy(&folder, &files, entry);
         let module = folder.join("mod.rs");
-        let Entry { title, breaks_demand_3, breaks_a_rule, .. } = entry;
+        let Entry { title, breaks_demand_3, breaks_a_rule, hangs_on_header, .. } = entry;
         writeln!(modules, "#[path = {module:?}]\nmod wrong_{number};").expect("a string grows");
         writeln!(
             names,
-            "Version {{ title: {title:?}, breaks_demand_3: {breaks_demand_3}, breaks_a_rule: {breaks_a_rule}, calls: calls_of!(wrong_{number}::calls) }},"
+            "Version {{ title: {title:?}, breaks_demand_3: {breaks_demand_3}, breaks_a_rule: {breaks_a_rule}, hangs_on_header: {hangs_on_header}, calls: calls_of!(wrong_{number}::calls) }},"
         )
         .expect("a string grows");
     }
@@ -69,16 +71,20 @@ fn entries(list: &str) -> Vec<Entry> {
                 part("- ").unwrap_or_else(|| panic!("{LIST}: \"{title}\" has no right line"));
             let wrong = part("+ ").unwrap_or("").to_string();
             let (file, marks) = group[1].split_once(", ").unwrap_or((group[1], ""));
-            let (mut breaks_demand_3, mut breaks_a_rule) = (false, false);
-            for mark in marks.split(", ").filter(|mark| !mark.is_empty()) {
-                match mark {
-                    BREAKS_DEMAND_3 => breaks_demand_3 = true,
-                    BREAKS_A_RULE => breaks_a_rule = true,
-                    _ => panic!("{LIST}: \"{title}\": \"{mark}\" is no mark"),
-                }
+            let marks: Vec<&str> = marks.split(", ").filter(|mark| !mark.is_empty()).collect();
+            for mark in &marks {
+                let known = [BREAKS_DEMAND_3, BREAKS_A_RULE, HANGS_ON_HEADER].contains(mark);
+                assert!(known, "{LIST}: \"{title}\": \"{mark}\" is no mark");
             }
-            let (file, right) = (file.to_string(), right.to_string());
-            Entry { title, file, breaks_demand_3, breaks_a_rule, right, wrong }
+            Entry {
+                title,
+                file: file.to_string(),
+                breaks_demand_3: marks.contains(&BREAKS_DEMAND_3),
+                breaks_a_rule: marks.contains(&BREAKS_A_RULE),
+                hangs_on_header: marks.contains(&HANGS_ON_HEADER),
+                right: right.to_string(),
+                wrong,
+            }
         })
         .collect()
 }

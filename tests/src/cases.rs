@@ -1,11 +1,12 @@
 //! A case: one block and what is asked of it, fixed by a seed and a case number.
 
 use crate::compare::{Checker, Difference};
-use crate::draft::nine_digits;
+use crate::draft::{digits, Draft};
 use crate::edges::{self, Edge};
+use crate::headers;
 use crate::law::descriptor::*;
 use crate::law::numbers::{read_signed, store};
-use crate::law::rules::{open, Refusal, HEADER};
+use crate::law::rules::{open, Refusal};
 use crate::pairs;
 use crate::questions::{request, Extent};
 use crate::random::Random;
@@ -44,10 +45,10 @@ pub fn run(checker: &mut Checker, seed: u64, case: u64) -> (String, Result<(), D
             (format!("two faults: {}; {}", a.name, b.name), ask_any(checker, &block, random))
         }
         6 => {
-            let mut block = right_block(random);
-            damage(&mut block, random);
+            let block = damaged(&right_draft(random), random);
             ("damage".into(), ask_any(checker, &block, random))
         }
+        _ if case % 32 == 31 => ("two headers".into(), two_headers(checker, random)),
         _ => ("cut of a cut".into(), cut_of_cut(checker, random)),
     }
 }
@@ -65,12 +66,22 @@ pub fn cut_opened(checker: &mut Checker, random: &mut Random) -> Result<(), Diff
     ask(checker, &block, random, &[cut])
 }
 
+/// The payload of a right block under another header.
+pub fn two_headers(checker: &mut Checker, random: &mut Random) -> Result<(), Difference> {
+    let draft = right_draft(random);
+    headers::check(checker, &draft, random)
+}
+
 fn take_turn(edges: &[&'static Edge], turn: u64) -> &'static Edge {
     edges[(turn % edges.len() as u64) as usize]
 }
 
+fn right_draft(random: &mut Random) -> Draft {
+    Shape::any(random).draft(random)
+}
+
 fn right_block(random: &mut Random) -> Vec<u8> {
-    Shape::any(random).draft(random).bytes()
+    right_draft(random).bytes()
 }
 
 /// Two edges that two different rules refuse.
@@ -86,13 +97,14 @@ fn two_faults(random: &mut Random) -> (&'static Edge, &'static Edge) {
 
 /// Random damage: bytes changed (most often in the header and descriptor), cut off, added, moved.
 /// Half of the time the header is made to fit again, so that later rules see the damage.
-fn damage(block: &mut Vec<u8>, random: &mut Random) {
+fn damaged(draft: &Draft, random: &mut Random) -> Vec<u8> {
+    let (mut block, header) = (draft.bytes(), draft.header_len());
     for _ in 0..random.range(1, 3) {
         let length = block.len();
-        if length < HEADER {
-            return;
+        if length < header {
+            return block;
         }
-        let near = random.below(length.min(HEADER + SIZE));
+        let near = random.below(length.min(header + SIZE));
         let anywhere = random.below(length);
         match random.below(10) {
             0..=2 => block[near] ^= 1 << random.below(8),
@@ -104,21 +116,22 @@ fn damage(block: &mut Vec<u8>, random: &mut Random) {
                 block.extend(random.bytes(more));
             }
             7 => drop(block.drain(anywhere..length.min(anywhere + 16))),
-            _ => change_long(block, random),
+            _ => change_long(&mut block, header, random),
         }
     }
-    if block.len() > HEADER && random.once_in(2) {
-        let digits = nine_digits(block.len() - HEADER);
-        block[2..HEADER].copy_from_slice(&digits);
+    if block.len() > header && random.once_in(2) {
+        let stated = digits(block.len() - header, header - 2);
+        block.splice(2..header, stated);
     }
+    block
 }
 
 /// Puts an extreme number, or one near the old, in place of a long that the rules judge.
-fn change_long(block: &mut [u8], random: &mut Random) {
+fn change_long(block: &mut [u8], header: usize, random: &mut Random) {
     let lengths = (0..10).map(length_at);
     let judged = [WAVE_ARRAY_COUNT, FIRST_POINT, SPARSING_FACTOR, SEGMENT_INDEX, SUBARRAY_COUNT];
     let fields: Vec<usize> = lengths.chain(judged).collect();
-    let at = HEADER + random.pick(&fields);
+    let at = header + random.pick(&fields);
     if block.len() < at + 4 {
         return;
     }

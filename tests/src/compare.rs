@@ -94,8 +94,17 @@ fn differences(expected: &Reply, came: &Reply) -> Vec<String> {
     lines
 }
 
+/// How two replies of a core differ that should be one: the number, then what they left.
+pub fn reply_difference(first: &Reply, second: &Reply) -> Option<String> {
+    let numbers = (first.number != second.number)
+        .then(|| format!("numbers {} and {}", first.number, second.number));
+    let out = || slice_difference("out", &first.out, &second.out);
+    let answer = || slice_difference("answer", &first.answer, &second.answer);
+    numbers.or_else(out).or_else(answer)
+}
+
 /// Where two contents of a slice first differ, with the bytes from there on.
-pub fn slice_difference(name: &str, expected: &[u8], came: &[u8]) -> Option<String> {
+fn slice_difference(name: &str, expected: &[u8], came: &[u8]) -> Option<String> {
     let count = expected.iter().zip(came).filter(|(a, b)| a != b).count();
     let first = expected.iter().zip(came).position(|(a, b)| a != b)?;
     let part = |bytes: &[u8]| hex(&bytes[first..bytes.len().min(first + 16)]);

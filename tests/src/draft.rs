@@ -20,10 +20,14 @@ pub struct Draft {
     pub ristime: Vec<u8>,
     pub array_1: Vec<u8>,
     pub array_2: Vec<u8>,
-    /// `#9` in a right block.
-    pub start: [u8; 2],
-    /// The nine digits where they are not to be the payload's length.
-    pub digits: Option<[u8; 9]>,
+    /// `#` in a right block.
+    pub hash: u8,
+    /// d where it is not to be the count of the digits.
+    pub count: Option<u8>,
+    /// How many digits there are, or as many as the payload's length takes.
+    pub least_digits: usize,
+    /// The digits where they are not to be the payload's length.
+    pub digits: Option<Vec<u8>>,
     /// What stands behind the payload.
     pub tail: Vec<u8>,
     /// Where the slice is to end early.
@@ -43,7 +47,9 @@ impl Draft {
             ristime: vec![],
             array_1: vec![],
             array_2: vec![],
-            start: *b"#9",
+            hash: b'#',
+            count: None,
+            least_digits: 9,
             digits: None,
             tail: vec![],
             kept: None,
@@ -133,13 +139,29 @@ impl Draft {
         self.parts().iter().map(|part| part.len()).sum()
     }
 
+    /// The header's digits.
+    pub fn digits(&self) -> Vec<u8> {
+        match &self.digits {
+            Some(digits) => digits.clone(),
+            None => digits(self.payload_len(), self.least_digits),
+        }
+    }
+
+    /// Makes the digits, as many as they are, state another number than the payload's length.
+    pub fn set_stated(&mut self, number: usize) {
+        self.digits = Some(digits(number, self.digits().len()));
+    }
+
+    /// Bytes before the payload.
+    pub fn header_len(&self) -> usize {
+        2 + self.digits().len()
+    }
+
     /// The finished slice.
     pub fn bytes(&self) -> Vec<u8> {
-        let digits = match self.digits {
-            Some(digits) => digits.to_vec(),
-            None => nine_digits(self.payload_len()).to_vec(),
-        };
-        let mut bytes = [&self.start[..], &digits].concat();
+        let digits = self.digits();
+        let mut bytes = vec![self.hash, self.count.unwrap_or(b'0' + digits.len() as u8)];
+        bytes.extend(digits);
         bytes.extend(self.parts().concat());
         bytes.extend(&self.tail);
         bytes.truncate(self.kept.unwrap_or(bytes.len()));
@@ -151,8 +173,7 @@ impl Draft {
     }
 }
 
-/// A number below 1,000,000,000 as nine digits.
-pub fn nine_digits(number: usize) -> [u8; 9] {
-    let text = format!("{number:09}");
-    text.as_bytes().try_into().expect("a number below 1,000,000,000 has nine digits")
+/// A number as so many digits, or as many as it takes.
+pub fn digits(number: usize, least: usize) -> Vec<u8> {
+    format!("{number:0least$}").into_bytes()
 }

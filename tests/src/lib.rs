@@ -6,6 +6,7 @@ pub mod compare;
 pub mod draft;
 pub mod edges;
 pub mod floats;
+pub mod headers;
 pub mod law;
 pub mod pairs;
 pub mod questions;

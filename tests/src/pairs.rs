@@ -1,7 +1,7 @@
 //! Demand 3, on the core's own answers: a cut of a cut is the one combined cut, and every kept
 //! point has the value and time it had in the first block.
 
-use crate::compare::{slice_difference, Checker, Difference};
+use crate::compare::{reply_difference, Checker, Difference};
 use crate::questions::{exact_request, with_room, Extent};
 use crate::random::Random;
 use crate::request::{Call, Reply};
@@ -62,11 +62,7 @@ fn combined(a: Call, b: Call, c: u64) -> Option<Call> {
 }
 
 fn same(of_cut: &Reply, at_once: &Reply, a: Call, b: Call) -> Result<(), Difference> {
-    let numbers = (of_cut.number != at_once.number)
-        .then(|| format!("numbers {} and {}", of_cut.number, at_once.number));
-    let out = slice_difference("out", &of_cut.out, &at_once.out);
-    let answer = slice_difference("answer", &of_cut.answer, &at_once.answer);
-    match numbers.or(out).or(answer) {
+    match reply_difference(of_cut, at_once) {
         None => Ok(()),
         Some(what) => Err(Difference(format!(
             "a cut of a cut is not the combined cut\n    first {a}\n    then {b}\n    {what}"

@@ -1,6 +1,7 @@
 //! What is asked of a block: calls with numbers at and beyond their limits, slices with just
 //! enough room and one byte less.
 
+use crate::law::cut::CUT_MORE;
 use crate::law::rules::{open, LAST_PLACE};
 use crate::random::Random;
 use crate::request::{Call, Request, LAW};
@@ -169,7 +170,7 @@ fn need(call: Call, block: &[u8]) -> (usize, usize) {
         Call::Point { .. } => (0, 16),
         Call::Fill { .. } => (0, 8 * Extent::of(block).points as usize),
         Call::Cut { .. } => {
-            let (out, answer) = (vec![0; block.len()], vec![0; 16]);
+            let (out, answer) = (vec![0; block.len() + CUT_MORE], vec![0; 16]);
             let reply = LAW.reply(&Request { call, block, out, answer });
             (if reply.number == 0 { reply.written().len() } else { 400 }, 16)
         }

@@ -2,22 +2,23 @@
 //! number is kept for one that would.
 
 use crate::compare::{Checker, Difference};
+use crate::law::cut::CUT_MORE;
 use crate::questions::{exact_request, with_room};
 use crate::random::Random;
 use crate::request::Call;
 
-/// A cut that nothing refused, or 13 alone: it is made with room for the whole block, and what it
-/// writes is opened.
+/// A cut that nothing refused, or 13 alone: it is made with room for any cut of the block, and what
+/// it writes is opened.
 pub fn check(
     checker: &mut Checker,
     block: &[u8],
     cut: Call,
     random: &mut Random,
 ) -> Result<(), Difference> {
-    let reply = checker.ask(&with_room(random, cut, block, block.len(), 16))?;
+    let reply = checker.ask(&with_room(random, cut, block, block.len() + CUT_MORE, 16))?;
     if reply.number != 0 {
         let number = reply.number;
-        return Err(Difference(format!("{cut}: refused by {number} with room for the block")));
+        return Err(Difference(format!("{cut}: refused by {number} with room for any cut")));
     }
     let opened = checker.ask(&exact_request(random, Call::Open, reply.written()))?;
     if opened.number != 0 {

@@ -73,7 +73,8 @@ impl Shape {
     }
 
     /// A right block of this shape. Fields that no rule judges hold random bytes, and so does what
-    /// stands behind the zero bytes of the names in half of all blocks.
+    /// stands behind the zero bytes of the names in half of all blocks. Half of the headers are
+    /// `#9`, the others have any number of digits that holds the length.
     pub fn draft(&self, random: &mut Random) -> Draft {
         let mut draft = Draft::plain(self.order);
         draft.head = random.bytes(SIZE);
@@ -97,6 +98,9 @@ impl Shape {
         draft.fit_lengths();
         if random.once_in(3) {
             draft.tail = vec![10];
+        }
+        if random.once_in(2) {
+            draft.least_digits = 1 + random.below(9);
         }
         draft
     }

@@ -3,6 +3,7 @@ use crate::blocks;
 use cuts::Setup;
 use libc::STDOUT_FILENO;
 ghost use Prim.Native.Nat.{_≤_};
+ghost use lib.ListN.{length};
 
 // Opens a block as it is.
 pub fn takes(name: &[u8], shape: u32) {
@@ -23,6 +24,31 @@ pub fn opens_two(name: &[u8], shape: u32, at: usize, value: u32, also: usize, ot
 // Opens the first `slice` bytes of the example, with a number stored over it.
 pub fn slices(name: &[u8], slice: usize, at: usize, value: u32) {
     judge(name, 0, slice, at, value, at, value);
+}
+
+// Opens the first `slice` bytes of the example under another header.
+pub fn heads(name: &[u8], header: &[u8], slice: usize)
+    requires { ⌜ length (now header) ≤ 11 ⌝ }
+{
+    let mut block = [0u8; 512];
+    blocks::make_under(header, &mut block);
+    let o = block::open(first(&block, slice));
+    print(o.refusal, name);
+}
+
+// Cuts all of the example, under another header, to so many bytes.
+pub fn cuts_under(name: &[u8], header: &[u8], slice: usize, room: usize)
+    requires { ⌜ length (now header) ≤ 11 ⌝ }
+{
+    let mut block = [0u8; 512];
+    blocks::make_under(header, &mut block);
+    let all = Setup {
+        sp: 0,
+        np: 0,
+        fp: 0,
+        sn: 0,
+    };
+    cut(name, &block, slice, all, 1, room);
 }
 
 // Asks for a point.
@@ -50,10 +76,7 @@ pub fn cuts(name: &[u8], shape: u32, setup: Setup, order: u32, room: usize) {
     let mut block = [0u8; 512];
     blocks::make(shape, &mut block);
     let slice = 11 + blocks::payload(shape) as usize;
-    let mut out = [0u8; 512];
-    let most = within(room, 512);
-    let w = cuts::cut(first(&block, slice), setup, order, &mut out[..most]);
-    print(w.refusal, name);
+    cut(name, &block, slice, setup, order, room);
 }
 
 // Opens what a cut writes.
@@ -65,6 +88,14 @@ pub fn opens_cut(name: &[u8], shape: u32, setup: Setup, order: u32) {
     let w = cuts::cut(first(&block, slice), setup, order, &mut out);
     let o = block::open(first(&out, w.length as usize));
     print(o.refusal, name);
+}
+
+// Cuts the first `slice` bytes of a block to so many bytes.
+fn cut(name: &[u8], block: &[u8; 512], slice: usize, setup: Setup, order: u32, room: usize) {
+    let mut out = [0u8; 512];
+    let most = within(room, 512);
+    let w = cuts::cut(first(block, slice), setup, order, &mut out[..most]);
+    print(w.refusal, name);
 }
 
 // Opens the first `slice` bytes of a block with two numbers stored over it.

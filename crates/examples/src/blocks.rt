@@ -1,4 +1,7 @@
 // Blocks to be judged: all low byte first, samples of one byte, WAVE_ARRAY_COUNT 2, gain 0.5, offset 0.25, interval 0.25, horizontal offset −1.
+ghost use Prim.Native.Nat.{_≤_};
+ghost use lib.ListN.{length};
+
 // The payload's length of each shape: 0 the scope document's example, 1 with two segments and their trigger times, 2 with one RIS offset, 3 with
 // a second array, 4 with a trigger time and a RIS offset, 5 the example with old bytes behind the zero bytes of its names.
 pub fn payload(shape: u32) -> u32 {
@@ -32,6 +35,24 @@ pub fn make(shape: u32, out: &mut [u8; 512]) {
         copies::copy_bytes(b"OLD", 0, 3, out, 11 + 9);
         copies::copy_bytes(b"BYTES", 0, 5, out, 11 + 27);
     }
+}
+
+// The scope document's example under another header, at the start of out.
+pub fn make_under(header: &[u8], out: &mut [u8; 512])
+    requires { ⌜ length (now header) ≤ 11 ⌝ }
+{
+    let mut block = [0u8; 512];
+    make(0, &mut block);
+    put_under(header, &block, out);
+}
+
+// A header and, behind it, the payload of the block.
+fn put_under(header: &[u8], block: &[u8; 512], out: &mut [u8; 512])
+    requires { ⌜ length (now header) ≤ 11 ⌝ }
+{
+    let n = header.len();
+    copies::copy_bytes(header, 0, n, out, 0);
+    copies::copy_bytes(block, 11, 348, out, n);
 }
 
 // The example of the scope document, with another length in its header.

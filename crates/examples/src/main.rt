@@ -8,6 +8,7 @@ use cuts::Setup;
 
 fn main() {
     frame();
+    headers();
     length();
     name();
     form();
@@ -20,6 +21,7 @@ fn main() {
     asked();
     filled();
     cut();
+    cut_under();
     written();
 }
 
@@ -28,10 +30,26 @@ fn frame() {
     asks::slices(b"an empty slice", 0, 47, 346);
     asks::slices(b"ten bytes", 10, 47, 346);
     asks::opens(b"a first byte $", 0, 0, 0x3030_3924);
-    asks::opens(b"a second byte 8", 0, 0, 0x3030_3823);
     asks::opens(b"a digit /", 0, 7, 0x2f34_3330);
     asks::opens(b"a digit :", 0, 7, 0x3a34_3330);
     asks::takes(b"the example", 0);
+}
+
+// headers from #1 to #9: 1 and 2
+fn headers() {
+    asks::heads(b"one byte", b"#", 1);
+    asks::heads(b"#0", b"#0", 350);
+    asks::heads(b"#:", b"#:", 350);
+    asks::heads(b"#6 without its last digit", b"#6000348", 7);
+    asks::heads(b"#6 with a digit :", b"#600034:", 356);
+    asks::heads(b"#6 alone", b"#6000348", 8);
+    asks::heads(b"#6, a byte missing", b"#6000348", 355);
+    asks::heads(b"#1 and 9", b"#19", 351);
+    asks::heads(b"#2 and 99", b"#299", 352);
+    asks::heads(b"#3 and 348", b"#3348", 353);
+    asks::heads(b"#6 and 000348", b"#6000348", 356);
+    asks::heads(b"#8 and 00000348", b"#800000348", 358);
+    asks::heads(b"#8 and nine digits", b"#8000000348", 359);
 }
 
 // 2
@@ -258,6 +276,24 @@ fn cut() {
     );
     asks::cuts(b"a cut with room for a byte less", 0, all, 0, 358);
     asks::cuts(b"a cut with just the room", 0, all, 0, 359);
+}
+
+// a cut writes #9, which may be six bytes more than the block has
+fn cut_under() {
+    asks::cuts_under(
+        b"a cut under #3 with room for its block",
+        b"#3348",
+        353,
+        353,
+    );
+    asks::cuts_under(b"a cut under #3 with six bytes more", b"#3348", 353, 359);
+    asks::cuts_under(b"a cut under #6 with two bytes more", b"#6000348", 356, 358);
+    asks::cuts_under(
+        b"a cut under #6 with three bytes more",
+        b"#6000348",
+        356,
+        359,
+    );
 }
 
 // 14 was never given and is not used: what a cut writes breaks no rule

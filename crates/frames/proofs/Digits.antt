@@ -4,16 +4,14 @@ use mathlib.Core.Path.{_≡_, refl, sym, ap, _∙_}
 use mathlib.Core.Bool.{Bool, true, false, _&&_}
 use mathlib.Core.List.{List, [], _∷_, _++_, map, map-append, reverse, reverse-append}
 use Prim.Native.Nat.{ℕ, zero, suc, _+_, _-_, _*_, _^_, _≤_, _<_}
-use native.Mathlib.Nat.{pow-suc, pow-le-pow-right}
+use native.Mathlib.Nat.{pow-le-pow-right}
 use native.Mathlib.Omega.{arith}
 use lib.ListN.{length, getD, take, drop, length-take, length-drop}
 use lib.Seq.{take-suc, getD-take, getD-drop}
-use lib.Dec.{leb}
-use borrow.Author.Tests.{leb-true}
 use Rattle.rules.specs.Numbers.{low}
 use Rattle.rules.specs.Rules.{every?, digit?, digitCount, stated, payloadStart}
-use Rattle.rules.proofs.Tests.{and-true}
 use Rattle.rules.proofs.Every.{every-both}
+use Rattle.rules.proofs.Frames.{stated-below}
 
 -- the bytes from the third up to `at`, and the number that they state
 abbrev upTo : ℕ → List ℕ → List ℕ
@@ -33,15 +31,10 @@ pub record Read (s : List ℕ) (at n : ℕ) : Type 0 where
   pub from : 2 ≤ at
   pub good : every? digit? (upTo at s) ≡ true
   pub adds : n ≡ statedBy (upTo at s)
-  pub small : n < 10 ^ (at - 2)
-
--- a digit is a byte from 48 to 57
-pub digit-says : (b : ℕ) → digit? b ≡ true → (48 ≤ b) × (b ≤ 57)
-digit-says b g = let d = and-true (leb 48 b) (leb b 57) g in (leb-true 48 b (d .0), leb-true b 57 (d .1))
 
 pub read-none : (s : List ℕ) → Read s 2 0
 unfolding low
-read-none s = record { from = omega arith; good = refl; adds = refl; small = omega arith }
+read-none s = record { from = omega arith; good = refl; adds = refl }
 
 module _ (s : List ℕ) (at n : ℕ) (r : Read s at n) where
   pub read-next : at < length s → digit? (getD s at 0) ≡ true → Read s (at + 1) (n * 10 + (getD s at 0 - 48))
@@ -58,11 +51,12 @@ module _ (s : List ℕ) (at n : ℕ) (r : Read s at n) where
         from = omega arith;
         good = ap (every? digit?) more ∙ every-both digit? (upTo at s) (b ∷ []) (r .good) (ap (λ (x : Bool). x && true) g);
         adds = ap (λ (m : ℕ). m * 10 + (b - 48)) (r .adds) ∙ sym (stated-more (upTo at s) b) ∙ ap statedBy (sym more);
-        small = let d = digit-says b g in let p : 10 ^ suc (at - 2) ≡ 10 ^ (at - 2) * 10 = pow-suc 10 (at - 2) in rw count (omega (arith, r .small));
       }
 
   pub read-bound : at ≤ 11 → n < 1000000000
-  read-bound h = let p : 10 ^ (at - 2) ≤ 10 ^ 9 = pow-le-pow-right (omega arith) {i = at - 2} {j = 9} (omega arith) in omega (arith, r .small)
+  read-bound h =
+      let p : 10 ^ length (upTo at s) ≤ 10 ^ 9 = pow-le-pow-right (omega arith) {i = length (upTo at s)} {j = 9} (omega (arith, length-take (at - 2) (drop 2 s))) in
+      omega (arith, r .adds, stated-below (upTo at s) (r .good))
 
 pub read-all : (s : List ℕ) (n : ℕ) → Read s (payloadStart s) n → (every? digit? (take (digitCount s) (drop 2 s)) ≡ true) × (n ≡ stated s)
 unfolding stated

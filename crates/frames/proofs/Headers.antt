@@ -2,13 +2,15 @@
 use mathlib.Core.Path.{_≡_, refl, sym, ap, _∙_}
 use mathlib.Core.Bool.{Bool, true, false, cond, _&&_}
 use mathlib.Core.List.{List}
-use Prim.Native.Nat.{ℕ, _≤_, _<_}
+use Prim.Native.Nat.{ℕ, _^_, _≤_, _<_}
+use native.Mathlib.Nat.{pow-le-pow-right}
 use native.Mathlib.Omega.{arith}
 use lib.ListN.{length, getD, take, drop}
 use lib.Dec.{leb, eqb}
 use borrow.Author.Tests.{leb-true, lt-leb, le-leb}
 use Rattle.rules.specs.Rules.{all, every?, digit?, digitCount, stated, payloadStart, frame}
-use Rattle.rules.proofs.Tests.{and-true}
+use Rattle.rules.proofs.Tests.{and-true, all-each}
+use Rattle.rules.proofs.Frames.{digits-say}
 use Rattle.numbers.proofs.Bools.{and-assoc, and-end}
 use Rattle.frames.specs.declared.Header.{Header}
 use Rattle.frames.specs.Headers.{framedAs, unframedAs, headerOf}
@@ -33,21 +35,17 @@ module _ (s : List ℕ) where
   unfolding headerOf frame digits-good
   header-joined = simp (and-assoc, and-end)
 
-  pub short-is : length s < 2 → headerOf s ≡ unframedAs
-  short-is h = header-joined ∙ rw (lt-leb 2 (length s) h)
+  pub short-is : length s < 2 → unframedAs ≡ headerOf s
+  short-is h = sym (header-joined ∙ rw (lt-leb 2 (length s) h))
 
-  pub start-is : started s ≡ false → headerOf s ≡ unframedAs
-  start-is e = header-joined ∙ rw (e, none (leb 2 (length s)))
+  pub start-is : started s ≡ false → unframedAs ≡ headerOf s
+  start-is e = sym (header-joined ∙ rw (e, none (leb 2 (length s))))
 
-  pub cut-is : length s < payloadStart s → headerOf s ≡ unframedAs
-  cut-is h = header-joined ∙ rw (lt-leb (payloadStart s) (length s) h, none (started s), none (leb 2 (length s)))
+  pub cut-is : length s < payloadStart s → unframedAs ≡ headerOf s
+  cut-is h = sym (header-joined ∙ rw (lt-leb (payloadStart s) (length s) h, none (started s), none (leb 2 (length s))))
 
   pub digits-are : started s ≡ true → payloadStart s ≤ length s → cond (every? digit? (take (digitCount s) (drop 2 s))) (framedAs s) unframedAs ≡ headerOf s
   digits-are e h = sym (header-joined ∙ (unfold digits-good in rw (le-leb 2 (length s) (omega arith), e, le-leb (payloadStart s) (length s) h)))
-
-  -- the answer, with the bounds that it is used by
-  pub unframed-is : (h : Header) → h ≡ unframedAs → headerOf s ≡ unframedAs → (h ≡ headerOf s) × ((h .start ≤ 11) × (h .length < 1000000000))
-  unframed-is h e u = (e ∙ sym u, (rw e (omega arith), rw e (omega arith)))
 
 -- ---- what a header says to those who asked for it
 
@@ -63,3 +61,10 @@ module _ (s : List ℕ) (h : Header) (e : h ≡ headerOf s) where
   pub framed-says : all (frame s) ≡ true → h ≡ framedAs s
   unfolding headerOf
   framed-says k = e ∙ ap (λ (b : Bool). cond b (framedAs s) unframedAs) k
+
+-- where rule 1 is kept the two numbers are small
+pub framed-small : (s : List ℕ) → all (frame s) ≡ true → (payloadStart s ≤ 11) × (stated s < 1000000000)
+framed-small s k =
+    let d = digits-say s (all-each (frame s) k) in
+    let p : 10 ^ digitCount s ≤ 10 ^ 9 = pow-le-pow-right (omega arith) {i = digitCount s} {j = 9} (d .0) in
+    (omega (arith, d .0), omega (arith, d .1))

@@ -16,6 +16,8 @@ struct Version {
     breaks_demand_3: bool,
     /// Whether opening what a cut wrote shows it, with nothing to compare with.
     breaks_a_rule: bool,
+    /// Whether the same payload under another header shows it, with nothing to compare with.
+    hangs_on_header: bool,
     calls: Calls,
 }
 
@@ -33,7 +35,10 @@ const CASES: u64 = 4000;
 const SEED: u64 = 1;
 
 fn main() -> ExitCode {
-    let right = first_difference(LAW).or(first_broken_pair(LAW)).or(first_broken_rule(LAW));
+    let right = first_difference(LAW)
+        .or(first_broken_pair(LAW))
+        .or(first_broken_rule(LAW))
+        .or(first_other_answer(LAW));
     if let Some(found) = right {
         println!("the right version: {found}");
         return ExitCode::FAILURE;
@@ -43,6 +48,7 @@ fn main() -> ExitCode {
     let list = std::env::args().any(|argument| argument == "--list");
     let paired = |version: &&Version| version.breaks_demand_3;
     let refused = |version: &&Version| version.breaks_a_rule;
+    let hanging = |version: &&Version| version.hangs_on_header;
     let all_caught = tell("caught", list, wrong::WRONG.iter(), first_difference);
     let pairs_caught = tell(
         "caught by demand 3 alone",
@@ -56,7 +62,13 @@ fn main() -> ExitCode {
         wrong::WRONG.iter().filter(refused),
         first_broken_rule,
     );
-    if all_caught && pairs_caught && rules_caught {
+    let headers_caught = tell(
+        "caught by two headers alone",
+        list,
+        wrong::WRONG.iter().filter(hanging),
+        first_other_answer,
+    );
+    if all_caught && pairs_caught && rules_caught && headers_caught {
         ExitCode::SUCCESS
     } else {
         ExitCode::FAILURE
@@ -100,6 +112,11 @@ fn first_broken_pair(calls: Calls) -> Option<String> {
 /// The first cut of an accepted block that breaks a rule.
 fn first_broken_rule(calls: Calls) -> Option<String> {
     first_at_odds(calls, "cut opened", cases::cut_opened)
+}
+
+/// The first payload that is answered otherwise under another header.
+fn first_other_answer(calls: Calls) -> Option<String> {
+    first_at_odds(calls, "two headers", cases::two_headers)
 }
 
 /// The first case in which a version is at odds with itself. It is compared with itself, so that

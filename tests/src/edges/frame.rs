@@ -2,7 +2,7 @@
 
 use super::shapes::*;
 use super::{edge, Edge};
-use crate::draft::{nine_digits, Draft, BEHIND_NAMES};
+use crate::draft::{Draft, BEHIND_NAMES};
 use crate::law::descriptor::*;
 use crate::random::Random;
 use std::ops::Range;
@@ -10,11 +10,40 @@ use std::ops::Range;
 pub static EDGES: &[Edge] = &[
     // 1 FRAME
     edge(1, "empty slice", any, |d, _| d.kept = Some(0)),
-    edge(1, "fewer than ten bytes", any, |d, r| d.kept = Some(r.below(10))),
-    edge(1, "ten bytes", any, |d, _| d.kept = Some(10)),
-    edge(2, "eleven bytes", any, |d, _| d.kept = Some(11)),
-    edge(1, "first byte", any, |d, r| d.start[0] = r.pick(b"\0\"$9 ")),
-    edge(1, "second byte", any, |d, r| d.start[1] = r.pick(b"\0\x2018:#")),
+    edge(1, "one byte", any, |d, _| d.kept = Some(1)),
+    edge(1, "two bytes", any, |d, _| d.kept = Some(2)),
+    edge(1, "a header cut short", any, |d, r| d.kept = Some(r.below(d.header_len()))),
+    edge(1, "a header one byte short", any, |d, _| d.kept = Some(d.header_len() - 1)),
+    edge(2, "a header alone", any, |d, _| d.kept = Some(d.header_len())),
+    edge(1, "first byte", any, |d, r| d.hash = r.pick(b"\0\"$9 ")),
+    edge(1, "#0", any, |d, _| d.count = Some(b'0')),
+    edge(1, "#0 and no digits", any, |d, _| d.digits = Some(vec![])),
+    edge(1, "d beside the digits", any, |d, r| d.count = Some(r.pick(b"/:"))),
+    edge(1, "ten digits", any, |d, _| d.least_digits = 10),
+    edge(1, "d that is no digit", any, |d, r| d.count = Some(r.pick(b"\0 #A\xB9\xFF"))),
+    edge(1, "d one more than the digits", any, |d, r| {
+        d.least_digits = 1 + r.below(8);
+        d.count = Some(b'1' + d.digits().len() as u8);
+    }),
+    edge(2, "d one less than the digits", any, |d, _| {
+        d.count = Some(b'0' - 1 + d.digits().len() as u8);
+    }),
+    edge(2, "#1", any, |d, r| few_digits(d, r, 1)),
+    edge(2, "#2", any, |d, r| few_digits(d, r, 2)),
+    edge(2, "#1 or #2 with L bytes", any, |d, r| {
+        let count = 1 + r.below(2);
+        few_digits(d, r, count);
+        let stated = d.digits().iter().fold(0, |n, digit| 10 * n + usize::from(digit - b'0'));
+        d.kept = Some(d.header_len() + stated);
+    }),
+    edge(0, "#3", short, |d, _| d.least_digits = 3),
+    edge(0, "#4", short, |d, _| d.least_digits = 4),
+    edge(0, "#5", short, |d, _| d.least_digits = 5),
+    edge(0, "#6", short, |d, _| d.least_digits = 6),
+    edge(0, "#7", short, |d, _| d.least_digits = 7),
+    edge(0, "#8", short, |d, _| d.least_digits = 8),
+    edge(0, "#9", short, |d, _| d.least_digits = 9),
+    edge(0, "no leading zeros", any, |d, _| d.least_digits = 1),
     edge(1, "byte below the digits", any, |d, r| set_digit(d, r, b'/')),
     edge(1, "byte above the digits", any, |d, r| set_digit(d, r, b':')),
     edge(1, "sign, blank or high bit", any, |d, r| {
@@ -23,35 +52,41 @@ pub static EDGES: &[Edge] = &[
     }),
     // 2 LENGTH
     edge(2, "L 345", any, |d, _| {
-        *d = Draft { head: d.head.clone(), ..Draft::plain(d.order) };
+        let Draft { order, least_digits, .. } = *d;
+        *d = Draft { head: d.head.clone(), least_digits, ..Draft::plain(order) };
         d.head.pop();
     }),
     edge(2, "stated L 0", any, |d, r| {
-        d.digits = Some(*b"000000000");
-        d.kept = r.pick(&[None, Some(11), Some(12)]);
+        d.set_stated(0);
+        let header = d.header_len();
+        d.kept = r.pick(&[None, Some(header), Some(header + 1)]);
     }),
-    edge(2, "stated L the highest number", any, |d, _| d.digits = Some(*b"999999999")),
+    edge(2, "stated L all nines", any, |d, r| d.digits = Some(vec![b'9'; 6 + r.below(4)])),
+    edge(2, "stated L without its highest digit", any, |d, _| {
+        d.least_digits = 1;
+        d.digits = Some(d.digits()[1..].to_vec());
+    }),
     edge(2, "one byte short", any, |d, _| {
         d.tail.clear();
-        d.kept = Some(10 + d.payload_len());
+        d.kept = Some(d.header_len() + d.payload_len() - 1);
     }),
     edge(2, "stated L one more", any, |d, _| {
         d.tail.clear();
-        d.digits = Some(nine_digits(d.payload_len() + 1));
+        d.set_stated(d.payload_len() + 1);
     }),
     edge(2, "stated L one more, new line in its place", any, |d, _| {
         d.tail = vec![10, 11];
-        d.digits = Some(nine_digits(d.payload_len() + 1));
+        d.set_stated(d.payload_len() + 1);
     }),
     edge(2, "stated L one less, no new line", any, |d, _| {
         d.tail.clear();
         set_last_byte(d, 11);
-        d.digits = Some(nine_digits(d.payload_len() - 1));
+        d.set_stated(d.payload_len() - 1);
     }),
     edge(5, "last sample passes for the new line", any, |d, _| {
         d.tail.clear();
         set_last_byte(d, 10);
-        d.digits = Some(nine_digits(d.payload_len() - 1));
+        d.set_stated(d.payload_len() - 1);
     }),
     edge(0, "last sample is a new line", any, |d, _| {
         d.tail.clear();
@@ -127,9 +162,15 @@ pub static EDGES: &[Edge] = &[
 ];
 
 fn set_digit(draft: &mut Draft, random: &mut Random, byte: u8) {
-    let mut digits = nine_digits(draft.payload_len());
-    digits[random.below(9)] = byte;
+    let mut digits = draft.digits();
+    let at = random.below(digits.len());
+    digits[at] = byte;
     draft.digits = Some(digits);
+}
+
+/// So many digits, fewer than any payload's length has.
+fn few_digits(draft: &mut Draft, random: &mut Random, count: usize) {
+    draft.digits = Some((0..count).map(|_| b'0' + random.below(10) as u8).collect());
 }
 
 fn set_last_byte(draft: &mut Draft, byte: u8) {

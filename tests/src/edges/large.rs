@@ -9,12 +9,14 @@ use crate::random::Random;
 use crate::shape::{Shape, Table};
 
 pub static EDGES: &[Edge] = &[
-    edge(0, "L 16,777,216", any, |d, r| lengthen(d, r, LONGEST_PAYLOAD)),
-    edge(2, "L 16,777,217", any, |d, r| lengthen(d, r, LONGEST_PAYLOAD + 1)),
+    edge(0, "#8 and L 16,777,216", any, |d, r| lengthen(d, r, LONGEST_PAYLOAD, 8)),
+    edge(0, "#9 and L 16,777,216", any, |d, r| lengthen(d, r, LONGEST_PAYLOAD, 9)),
+    edge(2, "#8 and L 16,777,217", any, |d, r| lengthen(d, r, LONGEST_PAYLOAD + 1, 8)),
+    edge(2, "#9 and L 16,777,217", any, |d, r| lengthen(d, r, LONGEST_PAYLOAD + 1, 9)),
     edge(0, "RIS_SWEEPS 32,767", |s, r| long_ristime(s, r, 32_767), as_it_is),
     edge(6, "RIS_SWEEPS 32,768", |s, r| long_ristime(s, r, 32_768), as_it_is),
     edge(0, "L 16,777,216, nearly all of it samples", longest_array, |d, r| {
-        lengthen(d, r, LONGEST_PAYLOAD);
+        lengthen(d, r, LONGEST_PAYLOAD, 8);
     }),
     edge(0, "a long array", long_array, as_it_is),
     edge(0, "65,537 segments", long_trigtime, as_it_is),
@@ -24,8 +26,9 @@ pub static EDGES: &[Edge] = &[
     }),
 ];
 
-/// Lengthens the user text until the payload has so many bytes.
-fn lengthen(draft: &mut Draft, random: &mut Random, payload_len: usize) {
+/// Lengthens the user text until the payload has so many bytes, under a header of so many digits.
+fn lengthen(draft: &mut Draft, random: &mut Random, payload_len: usize, digits: usize) {
+    draft.least_digits = digits;
     let more = random.bytes(payload_len - draft.payload_len());
     draft.user_text.extend(more);
     draft.fit_lengths();

@@ -18,6 +18,13 @@ pub fn bare(shape: &mut Shape, _: &mut Random) {
     shape.user_text = 0;
 }
 
+/// A payload of less than 1,000 bytes.
+pub fn short(shape: &mut Shape, random: &mut Random) {
+    shape.subarrays = random.range(0, 1);
+    shape.points = random.range(1, 40);
+    shape.user_text = random.below(40);
+}
+
 pub fn one_segment(shape: &mut Shape, random: &mut Random) {
     shape.subarrays = random.range(0, 1);
 }

@@ -21,8 +21,6 @@ pub enum Refusal {
     Room,
 }
 
-/// Bytes of `#9` and the nine digits.
-pub const HEADER: usize = 11;
 pub const SHORTEST_PAYLOAD: usize = SIZE;
 pub const LONGEST_PAYLOAD: usize = 16_777_216;
 /// The highest place in the scope's trace buffer, and the highest sparsing.
@@ -71,8 +69,8 @@ pub fn refuse(broken: bool, refusal: Refusal) -> Result<(), Refusal> {
 
 /// Opens a block: rules 1 to 8 in their order.
 pub fn open(block: &[u8]) -> Result<Opened<'_>, Refusal> {
-    frame(block)?;
-    let payload = length(block)?;
+    let start = frame(block)?;
+    let payload = length(block, start)?;
     name(payload)?;
     let descriptor = form(payload)?;
     tile(&descriptor)?;
@@ -83,23 +81,26 @@ pub fn open(block: &[u8]) -> Result<Opened<'_>, Refusal> {
     Ok(opened)
 }
 
-/// 1 FRAME
-fn frame(block: &[u8]) -> Result<(), Refusal> {
-    refuse(block.len() < HEADER, Refusal::Frame)?;
+/// 1 FRAME: `#`, a digit d from 1 to 9, and d digits; hands out where the payload starts.
+fn frame(block: &[u8]) -> Result<usize, Refusal> {
+    refuse(block.len() < 2, Refusal::Frame)?;
     refuse(block[0] != b'#', Refusal::Frame)?;
-    refuse(block[1] != b'9', Refusal::Frame)?;
-    let digits = &block[2..HEADER];
-    refuse(!digits.iter().all(u8::is_ascii_digit), Refusal::Frame)
+    refuse(!(b'1'..=b'9').contains(&block[1]), Refusal::Frame)?;
+    let start = 2 + usize::from(block[1] - b'0');
+    refuse(block.len() < start, Refusal::Frame)?;
+    let digits = &block[2..start];
+    refuse(!digits.iter().all(u8::is_ascii_digit), Refusal::Frame)?;
+    Ok(start)
 }
 
 /// 2 LENGTH; hands out the payload.
-fn length(block: &[u8]) -> Result<&[u8], Refusal> {
+fn length(block: &[u8], start: usize) -> Result<&[u8], Refusal> {
     let append = |number: usize, digit: &u8| 10 * number + usize::from(digit - b'0');
-    let stated = block[2..HEADER].iter().fold(0, append);
+    let stated = block[2..start].iter().fold(0, append);
     refuse(stated < SHORTEST_PAYLOAD, Refusal::Length)?;
     refuse(stated > LONGEST_PAYLOAD, Refusal::Length)?;
-    refuse(block.len() < HEADER + stated, Refusal::Length)?;
-    let (payload, behind) = block[HEADER..].split_at(stated);
+    refuse(block.len() < start + stated, Refusal::Length)?;
+    let (payload, behind) = block[start..].split_at(stated);
     refuse(!behind.is_empty() && behind != [10], Refusal::Length)?;
     Ok(payload)
 }

@@ -7,7 +7,8 @@ use lib.ListN.{getD}
 use borrow.Author.Tests.{not-true, not-false}
 use Rattle.rules.specs.Rules.{digit?}
 use Rattle.frames.specs.Headers.{framedAs, unframedAs}
-use Rattle.frames.proofs.Digits.{digit-says, Read, read-none, read-next, read-bound, read-all, digit-wrong}
+use Rattle.rules.proofs.Frames.{digit-says}
+use Rattle.frames.proofs.Digits.{Read, read-none, read-next, read-bound, read-all, digit-wrong}
 use borrow.Author.Needs.{needs}
 use Rattle.frames.proofs.digits_of.Statement.{statement}
 use Rattle.frames.proofs.digits_of.Tie as tie
@@ -39,21 +40,21 @@ returns c =
     let a = l .before .before .before in
     let wrong = digit-wrong (a .args .block .now) (l .before .loop .at) (l .before .loop .inv .1 .from) (omega (arith, a .pre .0, l .loop-test .taken)) (omega (arith, a .pre .0, a .pre .2))
     (sym (c .before .before .is-digit .ensures) ∙ not-true (c .before .before .is-digit .result) (c .before .if1 .taken)) in
-    (c .unframed .ensures ∙ sym (ap (λ (b : Bool). cond b (framedAs (a .args .block .now)) unframedAs) wrong), (rw (c .unframed .ensures) (omega arith), rw (c .unframed .ensures) (omega arith)))
+    c .unframed .ensures ∙ sym (ap (λ (b : Bool). cond b (framedAs (a .args .block .now)) unframedAs) wrong)
 
 -- the byte read is a digit
 good : (c : tie.Else1 Inv-loop μ-loop) → digit? (getD (c .before .before .before .before .before .before .args .block .now) (c .before .before .before .before .loop .at) 0) ≡ true
 good c = sym (c .before .is-digit .ensures) ∙ not-false (c .before .is-digit .result) (c .if1 .left)
 
 next : (c : tie.Else1 Inv-loop μ-loop) → let l = c .before .before .before .before .loop in let s = c .before .before .before .before .before .before .args .block .now in
-  Read s (l .at + 1) (l .length * 10 + (getD s (l .at) 0 - 48))
+    Read s (l .at + 1) (l .length * 10 + (getD s (l .at) 0 - 48))
 next c =
     let l = c .before .before .before in
     let a = l .before .before .before in
     read-next (a .args .block .now) (l .before .loop .at) (l .before .loop .length) (l .before .loop .inv .1) (omega (arith, a .pre .2, l .loop-test .taken)) (good c)
 
 bound : (c : tie.Else1 Inv-loop μ-loop) → let l = c .before .before .before .before .loop in let s = c .before .before .before .before .before .before .args .block .now in
-  l .length * 10 + (getD s (l .at) 0 - 48) < 1000000000
+    l .length * 10 + (getD s (l .at) 0 - 48) < 1000000000
 bound c =
     let l = c .before .before .before in
     let a = l .before .before .before in
@@ -83,10 +84,7 @@ returns-2 c =
     let l = c .before .loop in
     let end : l .at ≡ a .args .start = omega (arith, c .loop-test .left, l .inv .0) in
     let all-read = read-all (a .args .block .now) (l .length) (subst (λ (k : ℕ). Read (a .args .block .now) k (l .length)) (end ∙ a .pre .0) (l .inv .1)) in
-    (
-      (λ i. record { framed = true; start = a .pre .0 i; length = all-read .1 i }) ∙ sym (ap (λ (b : Bool). cond b (framedAs (a .args .block .now)) unframedAs) (all-read .0)),
-      (a .pre .1, read-bound (a .args .block .now) (l .at) (l .length) (l .inv .1) (omega (arith, a .pre .1, l .inv .0))),
-    )
+    (λ i. record { framed = true; start = a .pre .0 i; length = all-read .1 i }) ∙ sym (ap (λ (b : Bool). cond b (framedAs (a .args .block .now)) unframedAs) (all-read .0))
 
 pub digits-of-spec : {M : Type 1} → statement M
 digits-of-spec =
