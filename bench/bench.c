@@ -40,6 +40,18 @@ static void make(int order, size_t width, size_t segments, size_t in_each, int t
     put_block(block, s);
 }
 
+/* The same payload behind the header that a logger writes. */
+static void with_six_digits(void)
+{
+    enum { SIX = 8 };
+    char header[SIX + 21];
+    snprintf(header, sizeof header, "#6%06zu", length - HEADER);
+    block += HEADER - SIX;
+    length -= HEADER - SIX;
+    samples -= HEADER - SIX;
+    memcpy(block, header, SIX);
+}
+
 /* ---- the cases */
 
 static uint32_t opened(void) { return tessarquin_open(block, length, answer, sizeof answer); }
@@ -107,6 +119,7 @@ static const struct work {
 } works[] = {
     {"open-low", 1, 2, 0, opened, NULL},
     {"open-high", 0, 2, 0, opened, NULL},
+    {"open-six", 1, 2, 0, opened, NULL},
     {"open-trigger-low", 1, 2, 1, opened, NULL},
     {"open-trigger-high", 0, 2, 1, opened, NULL},
     {"point", 1, 2, 0, one_point, NULL},
@@ -141,6 +154,8 @@ static uint32_t (*prepare(const char *who, const char *name, size_t n))(void)
 {
     const struct work *w = find(name);
     make(w->order, w->width, w->in_each ? n : 1, w->in_each ? w->in_each : n, w->in_each != 0);
+    if (strcmp(name, "open-six") == 0)
+        with_six_digits();
     uint32_t (*work)(void) = strcmp(who, "lib") == 0 ? w->lib : w->c;
     if (!work || opened() != 0) {
         fprintf(stderr, "bench: %s has no such work\n", name);

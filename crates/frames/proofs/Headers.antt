@@ -1,6 +1,6 @@
 -- A header's answer by the tests of rule 1 in the order in which the code judges them: two bytes, `#` and d, d bytes more, and that these are digits.
 use mathlib.Core.Path.{_≡_, refl, sym, ap, _∙_}
-use mathlib.Core.Bool.{Bool, true, false, cond, _&&_}
+use mathlib.Core.Bool.{Bool, true, false, _&&_}
 use mathlib.Core.List.{List}
 use Prim.Native.Nat.{ℕ, _^_, _≤_, _<_}
 use native.Mathlib.Nat.{pow-le-pow-right}
@@ -13,7 +13,7 @@ use Rattle.rules.proofs.Tests.{and-true, all-each}
 use Rattle.rules.proofs.Frames.{digits-say}
 use Rattle.numbers.proofs.Bools.{and-assoc, and-end}
 use Rattle.frames.specs.declared.Header.{Header}
-use Rattle.frames.specs.Headers.{framedAs, unframedAs, headerOf}
+use Rattle.frames.specs.Headers.{framedAs, unframedAs, headerBy, headerOf}
 use Rattle.frames.proofs.Digits.{none}
 
 -- `#` and a digit from 1 to 9
@@ -31,7 +31,7 @@ module _ (s : List ℕ) where
   digits-good : Bool
   digits-good = every? digit? (take (digitCount s) (drop 2 s))
 
-  header-joined : headerOf s ≡ cond (leb 2 (length s) && (started s && (leb (payloadStart s) (length s) && digits-good))) (framedAs s) unframedAs
+  header-joined : headerOf s ≡ headerBy (leb 2 (length s) && (started s && (leb (payloadStart s) (length s) && digits-good))) s
   unfolding headerOf frame digits-good
   header-joined = simp (and-assoc, and-end)
 
@@ -44,13 +44,13 @@ module _ (s : List ℕ) where
   pub cut-is : length s < payloadStart s → unframedAs ≡ headerOf s
   cut-is h = sym (header-joined ∙ rw (lt-leb (payloadStart s) (length s) h, none (started s), none (leb 2 (length s))))
 
-  pub digits-are : started s ≡ true → payloadStart s ≤ length s → cond (every? digit? (take (digitCount s) (drop 2 s))) (framedAs s) unframedAs ≡ headerOf s
+  pub digits-are : started s ≡ true → payloadStart s ≤ length s → headerBy (every? digit? (take (digitCount s) (drop 2 s))) s ≡ headerOf s
   digits-are e h = sym (header-joined ∙ (unfold digits-good in rw (le-leb 2 (length s) (omega arith), e, le-leb (payloadStart s) (length s) h)))
 
 -- ---- what a header says to those who asked for it
 
 module _ (s : List ℕ) (h : Header) (e : h ≡ headerOf s) where
-  framed-by : (b : Bool) → cond b (framedAs s) unframedAs .framed ≡ b
+  framed-by : (b : Bool) → headerBy b s .framed ≡ b
   framed-by true = refl
   framed-by false = refl
 
@@ -60,7 +60,7 @@ module _ (s : List ℕ) (h : Header) (e : h ≡ headerOf s) where
 
   pub framed-says : all (frame s) ≡ true → h ≡ framedAs s
   unfolding headerOf
-  framed-says k = e ∙ ap (λ (b : Bool). cond b (framedAs s) unframedAs) k
+  framed-says k = e ∙ ap (λ (b : Bool). headerBy b s) k
 
 -- where rule 1 is kept the two numbers are small
 pub framed-small : (s : List ℕ) → all (frame s) ≡ true → (payloadStart s ≤ 11) × (stated s < 1000000000)

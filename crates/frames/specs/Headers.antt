@@ -13,5 +13,9 @@ framedAs s = record { framed = true; start = payloadStart s; length = stated s }
 abbrev pub unframedAs : Header
 unframedAs = record { framed = false; start = 0; length = 0 }
 
+-- by whether it keeps it
+abbrev pub headerBy : Bool → List ℕ → Header
+headerBy kept s = cond kept (framedAs s) unframedAs
+
 unfoldable pub headerOf : List ℕ → Header
-headerOf s = cond (all (frame s)) (framedAs s) unframedAs
+headerOf s = headerBy (all (frame s)) s

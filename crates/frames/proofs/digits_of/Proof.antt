@@ -1,12 +1,12 @@
 -- Digit by digit: the number that those read so far state, until one is wrong.
 use mathlib.Core.Path.{_≡_, sym, ap, _∙_, subst}
-use mathlib.Core.Bool.{Bool, true, cond}
+use mathlib.Core.Bool.{Bool, true}
 use Prim.Native.Nat.{ℕ, _+_, _-_, _*_, _≤_, _<_}
 use native.Mathlib.Omega.{arith}
 use lib.ListN.{getD}
 use borrow.Author.Tests.{not-true, not-false}
 use Rattle.rules.specs.Rules.{digit?}
-use Rattle.frames.specs.Headers.{framedAs, unframedAs}
+use Rattle.frames.specs.Headers.{headerBy}
 use Rattle.rules.proofs.Frames.{digit-says}
 use Rattle.frames.proofs.Digits.{Read, read-none, read-next, read-bound, read-all, digit-wrong}
 use borrow.Author.Needs.{needs}
@@ -40,7 +40,7 @@ returns c =
     let a = l .before .before .before in
     let wrong = digit-wrong (a .args .block .now) (l .before .loop .at) (l .before .loop .inv .1 .from) (omega (arith, a .pre .0, l .loop-test .taken)) (omega (arith, a .pre .0, a .pre .2))
     (sym (c .before .before .is-digit .ensures) ∙ not-true (c .before .before .is-digit .result) (c .before .if1 .taken)) in
-    c .unframed .ensures ∙ sym (ap (λ (b : Bool). cond b (framedAs (a .args .block .now)) unframedAs) wrong)
+    c .unframed .ensures ∙ sym (ap (λ (b : Bool). headerBy b (a .args .block .now)) wrong)
 
 -- the byte read is a digit
 good : (c : tie.Else1 Inv-loop μ-loop) → digit? (getD (c .before .before .before .before .before .before .args .block .now) (c .before .before .before .before .loop .at) 0) ≡ true
@@ -84,7 +84,7 @@ returns-2 c =
     let l = c .before .loop in
     let end : l .at ≡ a .args .start = omega (arith, c .loop-test .left, l .inv .0) in
     let all-read = read-all (a .args .block .now) (l .length) (subst (λ (k : ℕ). Read (a .args .block .now) k (l .length)) (end ∙ a .pre .0) (l .inv .1)) in
-    (λ i. record { framed = true; start = a .pre .0 i; length = all-read .1 i }) ∙ sym (ap (λ (b : Bool). cond b (framedAs (a .args .block .now)) unframedAs) (all-read .0))
+    (λ i. record { framed = true; start = a .pre .0 i; length = all-read .1 i }) ∙ sym (ap (λ (b : Bool). headerBy b (a .args .block .now)) (all-read .0))
 
 pub digits-of-spec : {M : Type 1} → statement M
 digits-of-spec =
