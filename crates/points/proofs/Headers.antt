@@ -14,7 +14,6 @@ use Rattle.rules.specs.Rules.{opened}
 use Rattle.rules.specs.Points.{value, walkRefusal}
 use Rattle.rules.proofs.Headers.{SameAnswers}
 use Rattle.points.specs.declared.answers.Point as answers
-use Rattle.points.specs.declared.walk.Step.{Step}
 use Rattle.points.specs.declared.walk.Step.the-variants.{Point}
 use Rattle.points.specs.Points.{pointBy, pointAs, filledBy, filledAs, outBy, filledOut}
 use Rattle.points.specs.Walks.{placeOf, stepAt, movedTo, placeAfter}
