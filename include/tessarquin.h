@@ -4,7 +4,7 @@
  * A block is what an oscilloscope answers to WF? with COMM_FORMAT DEF9: the bytes "#9", nine decimal digits that
  * give the payload's length, the payload (346 bytes of descriptor, texts, tables, samples), and at most one new line.
  * Loggers write shorter headers of the same kind: '#', a digit d from 1 to 9, and d digits. All are taken, leading
- * zeros too, and none changes an answer. The payload starts 2 + d bytes behind the '#'.
+ * zeros too, and none changes an answer. With the '#' as byte 0, the payload starts at byte 2 + d.
  * Whatever stands before the '#' is for the caller to remove.
  *
  * Four calls, each proved to meet its description for every input:
