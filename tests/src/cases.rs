@@ -121,7 +121,7 @@ fn damaged(draft: &Draft, random: &mut Random) -> Vec<u8> {
     }
     if block.len() > header && random.once_in(2) {
         let stated = digits(block.len() - header, header - 2);
-        block.splice(2..header, stated);
+        block.splice(1..header, [vec![b'0' + stated.len() as u8], stated].concat());
     }
     block
 }

@@ -12,6 +12,7 @@ use Rattle.rules.specs.Numbers.{low}
 use Rattle.rules.specs.Rules.{every?, digit?, digitCount, stated, payloadStart}
 use Rattle.rules.proofs.Every.{every-both}
 use Rattle.rules.proofs.Frames.{stated-below}
+use Rattle.numbers.proofs.Bools.{and-false}
 
 -- the bytes from the third up to `at`, and the number that they state
 abbrev upTo : ℕ → List ℕ → List ℕ
@@ -64,14 +65,10 @@ read-all s n r =
     let e : payloadStart s - 2 ≡ digitCount s = omega arith in
     (ap (λ (k : ℕ). every? digit? (take k (drop 2 s))) (sym e) ∙ r .good, r .adds ∙ ap (λ (k : ℕ). statedBy (take k (drop 2 s))) e)
 
-pub none : (b : Bool) → b && false ≡ false
-none true = refl
-none false = refl
-
 every-not : (t : ℕ → Bool) (l : List ℕ) (i : ℕ) → i < length l → t (getD l i 0) ≡ false → every? t l ≡ false
 every-not t [] i h e = absurd (omega arith)
 every-not t (x ∷ l) zero h e = ap (λ (b : Bool). b && every? t l) e
-every-not t (x ∷ l) (suc i) h e = ap (λ (b : Bool). t x && b) (every-not t l i (omega arith) e) ∙ none (t x)
+every-not t (x ∷ l) (suc i) h e = ap (λ (b : Bool). t x && b) (every-not t l i (omega arith) e) ∙ and-false (t x)
 
 pub digit-wrong : (s : List ℕ) (at : ℕ) → 2 ≤ at → at < payloadStart s → payloadStart s ≤ length s → digit? (getD s at 0) ≡ false → every? digit? (take (digitCount s) (drop 2 s)) ≡ false
 digit-wrong s at lo hi h e =

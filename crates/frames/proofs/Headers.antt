@@ -11,10 +11,9 @@ use borrow.Author.Tests.{leb-true, lt-leb, le-leb}
 use Rattle.rules.specs.Rules.{all, every?, digit?, digitCount, stated, payloadStart, frame}
 use Rattle.rules.proofs.Tests.{and-true, all-each}
 use Rattle.rules.proofs.Frames.{digits-say}
-use Rattle.numbers.proofs.Bools.{and-assoc, and-end}
+use Rattle.numbers.proofs.Bools.{and-assoc, and-end, and-false}
 use Rattle.frames.specs.declared.Header.{Header}
 use Rattle.frames.specs.Headers.{framedAs, unframedAs, headerBy, headerOf}
-use Rattle.frames.proofs.Digits.{none}
 
 -- `#` and a digit from 1 to 9
 abbrev pub started : List ℕ → Bool
@@ -35,17 +34,17 @@ module _ (s : List ℕ) where
   unfolding headerOf frame digits-good
   header-joined = simp (and-assoc, and-end)
 
-  pub short-is : length s < 2 → unframedAs ≡ headerOf s
-  short-is h = sym (header-joined ∙ rw (lt-leb 2 (length s) h))
+  pub unframed-short : length s < 2 → unframedAs ≡ headerOf s
+  unframed-short h = sym (header-joined ∙ rw (lt-leb 2 (length s) h))
 
-  pub start-is : started s ≡ false → unframedAs ≡ headerOf s
-  start-is e = sym (header-joined ∙ rw (e, none (leb 2 (length s))))
+  pub unframed-start : started s ≡ false → unframedAs ≡ headerOf s
+  unframed-start e = sym (header-joined ∙ rw (e, and-false (leb 2 (length s))))
 
-  pub cut-is : length s < payloadStart s → unframedAs ≡ headerOf s
-  cut-is h = sym (header-joined ∙ rw (lt-leb (payloadStart s) (length s) h, none (started s), none (leb 2 (length s))))
+  pub unframed-end : length s < payloadStart s → unframedAs ≡ headerOf s
+  unframed-end h = sym (header-joined ∙ rw (lt-leb (payloadStart s) (length s) h, and-false (started s), and-false (leb 2 (length s))))
 
-  pub digits-are : started s ≡ true → payloadStart s ≤ length s → headerBy (every? digit? (take (digitCount s) (drop 2 s))) s ≡ headerOf s
-  digits-are e h = sym (header-joined ∙ (unfold digits-good in rw (le-leb 2 (length s) (omega arith), e, le-leb (payloadStart s) (length s) h)))
+  pub framed-digits : started s ≡ true → payloadStart s ≤ length s → headerBy (every? digit? (take (digitCount s) (drop 2 s))) s ≡ headerOf s
+  framed-digits e h = sym (header-joined ∙ (unfold digits-good in rw (le-leb 2 (length s) (omega arith), e, le-leb (payloadStart s) (length s) h)))
 
 -- ---- what a header says to those who asked for it
 

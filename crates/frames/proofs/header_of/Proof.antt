@@ -5,7 +5,7 @@ use Prim.Native.Nat.{_≤_}
 use native.Mathlib.Omega.{arith}
 use lib.ListN.{getD}
 use borrow.Author.Tests.{not-true, not-false}
-use Rattle.frames.proofs.Headers.{started, started-says, short-is, start-is, cut-is, digits-are}
+use Rattle.frames.proofs.Headers.{started, started-says, unframed-short, unframed-start, unframed-end, framed-digits}
 use borrow.Author.Needs.{needs}
 use Rattle.frames.proofs.header_of.Statement.{statement}
 use Rattle.frames.proofs.header_of.Tie as tie
@@ -14,7 +14,7 @@ unframed-requires : tie.Need-unframed-requires
 unframed-requires c κs = search needs
 
 returns : tie.Need-returns
-returns c = c .unframed .ensures ∙ short-is _ (c .before .if1 .taken)
+returns c = c .unframed .ensures ∙ unframed-short _ (c .before .if1 .taken)
 
 shared-slice-read-d : tie.Need-shared-slice-read-d
 shared-slice-read-d c = search needs
@@ -26,7 +26,7 @@ unframed-requires-2 : tie.Need-unframed-requires-2
 unframed-requires-2 c κs = search needs
 
 returns-2 : tie.Need-returns-2
-returns-2 c = c .unframed2 .ensures ∙ start-is (c .before .before .before .before .before .before .args .block .now) (not-true _ (c .before .if2 .taken))
+returns-2 c = c .unframed2 .ensures ∙ unframed-start (c .before .before .before .before .before .before .args .block .now) (not-true _ (c .before .if2 .taken))
 
 -- `#` and a digit from 1 to 9
 begun : (c : tie.Else2) → started (c .before .before .before .before .before .args .block .now) ≡ true
@@ -47,7 +47,7 @@ unframed-requires-3 c κs = search needs
 returns-3 : tie.Need-returns-3
 returns-3 c =
     let s = c .before .before .before .before .before .before .before .args .block .now in
-    c .unframed3 .ensures ∙ cut-is s (omega (arith, digit (c .before .before), c .before .if3 .taken))
+    c .unframed3 .ensures ∙ unframed-end s (omega (arith, digit (c .before .before), c .before .if3 .taken))
 
 digits-of-requires : tie.Need-digits-of-requires
 digits-of-requires c κs = (omega (arith, digit (c .before)), omega (arith, digit (c .before)), c .if3 .left)
@@ -55,7 +55,7 @@ digits-of-requires c κs = (omega (arith, digit (c .before)), omega (arith, digi
 returns-4 : tie.Need-returns-4
 returns-4 c =
     let s = c .before .before .before .before .before .before .before .args .block .now in
-    c .digits-of .ensures ∙ digits-are s (begun (c .before .before)) (omega (arith, digit (c .before .before), c .before .if3 .left))
+    c .digits-of .ensures ∙ framed-digits s (begun (c .before .before)) (omega (arith, digit (c .before .before), c .before .if3 .left))
 
 pub header-of-spec : {M : Type 1} → statement M
 header-of-spec =
