@@ -54,7 +54,7 @@ host: tools archive
 # The program that the README prints, the calls at the end of a page, the host program (faults.c says which calls go wrong
 # in a second copy of it), and the independent reader.
 checked: WRAPPED := open write fsync close rename renameat2 tessarquin_point
-checked: host
+checked: host target/host/made
 	@awk '/^```c$$/ { on = 1; next } /^```$$/ { on = 0 } on' README.md >target/host/first.c
 	@$(CC) $(CFLAGS) target/host/first.c $(ARCHIVE) -o target/host/first
 	@$(CXX) -std=c++17 -Wall -Wextra -Werror -Iinclude -fsyntax-only -x c++ target/host/first.c
@@ -63,7 +63,6 @@ checked: host
 	@$(CC) $(CFLAGS) -Ihost host/tests/decimals.c host/decimal.c -o target/host/decimals
 	@$(RUN) target/host/decimals
 	@$(CC) $(CFLAGS) $(WRAPPED:%=-Wl,--wrap=%) $(HOST) host/tests/faults.c $(ARCHIVE) -o target/host/faulty
-	@$(CC) $(CFLAGS) host/tests/made.c -o target/host/made
 	@host/tests/run '$(RUN)' target/host crates/listing/stdin
 	@$(MAKE) listed
 	@cargo test -q --lib $(CARGO)
@@ -71,10 +70,18 @@ checked: host
 	@target/tests/release/slips
 	@target/tests/release/compare --cases 40000 --seed 1 -- $(RUN) target/tests/runner
 
-# The listing of the example's payload is the same under every header that holds its length.
-listed: tools
+# The listing of the example's payload is the same under every header that holds its length. A sequence with the
+# TRIGGER_TIMEs 100 and 200 is listed, and with 288 and 200 it is refused.
+listed: tools target/host/made
 	@rt check listing >target/listing.log 2>&1 || { cat target/listing.log; exit 1; }
 	@for d in 3 4 5 6 7 8 9; do { printf '#%d%0*d' $$d $$d 348; tail -c +12 crates/listing/stdin; } | $(LISTING) | cmp - crates/listing/stdout; done
+	@$(RUN) target/host/made 1 0 2 1 1 >target/host/two
+	@$(LISTING) <target/host/two | cmp - <(printf '%s\n' '2 1 1 1 0' '1 0 BFFC000000000000 0000000000000000' '2 0 3FFC000000000000 3FF0000000000000')
+	@{ head -c 363 target/host/two; printf '\162'; tail -c +365 target/host/two; } | $(LISTING) | cmp - <(echo 'refused 20')
+
+target/host/made: host/tests/made.c host/tests/blocks.h | tools
+	@mkdir -p target/host
+	@$(CC) $(CFLAGS) $< -o $@
 
 # The independent reader and the runner that makes the calls.
 compare: tools archive

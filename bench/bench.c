@@ -122,6 +122,8 @@ static const struct work {
     {"open-six", 1, 2, 0, opened, NULL},
     {"open-trigger-low", 1, 2, 1, opened, NULL},
     {"open-trigger-high", 0, 2, 1, opened, NULL},
+    {"open-below-zero-low", 1, 2, 1, opened, NULL},
+    {"open-below-zero-high", 0, 2, 1, opened, NULL},
     {"point", 1, 2, 0, one_point, NULL},
     {"point-trigger", 1, 2, 1, last_segment, NULL},
     {"sequence-whole", 1, 2, IN_SEQUENCE, of_whole, NULL},
@@ -156,6 +158,8 @@ static uint32_t (*prepare(const char *who, const char *name, size_t n))(void)
     make(w->order, w->width, w->in_each ? n : 1, w->in_each ? w->in_each : n, w->in_each != 0);
     if (strcmp(name, "open-six") == 0)
         with_six_digits();
+    if (strncmp(name, "open-below-zero", 15) == 0)
+        put_double(block, w->order, DESCRIPTOR_BYTES, -1.0);
     uint32_t (*work)(void) = strcmp(who, "lib") == 0 ? w->lib : w->c;
     if (!work || opened() != 0) {
         fprintf(stderr, "bench: %s has no such work\n", name);

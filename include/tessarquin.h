@@ -39,7 +39,7 @@
 extern "C" {
 #endif
 
-/* Why a call was refused. The smallest number that applies is the one returned. */
+/* Why a call was refused, in the order of the checks: the first that applies is the one returned. */
 enum tessarquin_refusal {
     TESSARQUIN_OK = 0,
     TESSARQUIN_FRAME = 1,    /* it does not start with #, a digit d from 1 to 9, and d digits */
@@ -50,12 +50,13 @@ enum tessarquin_refusal {
     TESSARQUIN_COUNT = 6,    /* the counts of points and segments do not fit the lengths of arrays and tables */
     TESSARQUIN_INDEX = 7,    /* FIRST_POINT or SPARSING_FACTOR is out of range */
     TESSARQUIN_FLOAT = 8,    /* a gain, offset, interval or table entry is infinite or not a number */
+    TESSARQUIN_TIME = 20,    /* a TRIGGER_TIME is less than the one before it */
     TESSARQUIN_CHOICE = 9,   /* there is no such array, or no such byte order */
     TESSARQUIN_SEGMENT = 10, /* there is no such segment */
     TESSARQUIN_POINT = 11,   /* there is no such point in a segment */
     TESSARQUIN_SPARSE = 12,  /* the block is thinned too much already for this step */
     TESSARQUIN_ROOM = 13     /* a slice lent for the answer is too short */
-    /* 14 was never given and is not used: what a cut writes obeys the rules */
+    /* 14 was never given and is not used: what a cut writes obeys the rules. No call here gives 15 to 19. */
 };
 
 /* The longest block: header, 16,777,216 bytes of payload, and a new line. */
@@ -72,8 +73,10 @@ enum tessarquin_refusal {
 #define TESSARQUIN_VALUE_BYTES 8u
 
 /*
- * Opens a block: refusals 1 to 8, then 13 if answer_len is below TESSARQUIN_OPEN_BYTES.
+ * Opens a block: refusals 1 to 8 and 20, then 13 if answer_len is below TESSARQUIN_OPEN_BYTES.
  * The two names are judged up to the zero byte that ends each; old bytes behind it are taken, and a cut copies them.
+ * TRIGGER_TIMEs are compared as numbers, from one segment to the next: equal ones pass, and -0.0 is equal to 0.0.
+ * TRIGGER_OFFSETs may have any order.
  *
  * The answer is five numbers:
  *     0  g, how many segments there are, at least 1
@@ -86,8 +89,8 @@ uint32_t tessarquin_open(const uint8_t *block, size_t block_len,
                          uint8_t *answer, size_t answer_len);
 
 /*
- * Point `point`, from 0 to M-1, of segment `segment`, from 1 to g, of array 1 or 2: refusals 1 to 11, then 13 if
- * answer_len is below TESSARQUIN_POINT_BYTES.
+ * Point `point`, from 0 to M-1, of segment `segment`, from 1 to g, of array 1 or 2: refusals 1 to 8, 20,
+ * 9 to 11, then 13 if answer_len is below TESSARQUIN_POINT_BYTES.
  *
  * The answer is two doubles: the value in the unit VERTUNIT (volts, mostly), VERTICAL_GAIN times the sample less
  * VERTICAL_OFFSET; and the time in the unit HORUNIT (seconds, mostly) from the trigger. Each is rounded once.
@@ -106,7 +109,7 @@ uint32_t tessarquin_point(const uint8_t *block, size_t block_len,
                           uint8_t *answer, size_t answer_len);
 
 /*
- * The values of all M points of a segment: refusals 1 to 10, then 13 if answer_len is below M times
+ * The values of all M points of a segment: refusals 1 to 8, 20, 9 and 10, then 13 if answer_len is below M times
  * TESSARQUIN_VALUE_BYTES.
  *
  * The answer is M doubles, each the value that tessarquin_point answers, bit for bit.
@@ -116,7 +119,8 @@ uint32_t tessarquin_fill(const uint8_t *block, size_t block_len,
                          uint8_t *answer, size_t answer_len);
 
 /*
- * Cuts a block by the numbers of WAVEFORM_SETUP: refusals 1 to 12, then 13 if out or answer is too short.
+ * Cuts a block by the numbers of WAVEFORM_SETUP: refusals 1 to 8, 20, 9 to 12, then 13 if out or answer is too
+ * short.
  *
  *     sp     keep every sp-th point of a segment; 0 counts as 1
  *     np     and at most np of them; 0 is no limit
@@ -125,8 +129,8 @@ uint32_t tessarquin_fill(const uint8_t *block, size_t block_len,
  *     order  the byte order of the block written: 0 high byte first, 1 low byte first
  *
  * The block goes to out, with the header "#9" and no new line; room of block_len + TESSARQUIN_CUT_MORE is always
- * enough. What is written obeys the rules: no call refuses it by 1 to 8. The answer is two numbers: c, the points kept
- * of each segment, and the bytes written to out.
+ * enough. What is written obeys the rules: no call refuses it by 1 to 8 or 20. The answer is two numbers: c, the points
+ * kept of each segment, and the bytes written to out.
  * The kept points have their values and times bit for bit, and a cut of a cut is the one cut with sp the product,
  * fp = fp1 + sp1 * fp2, np the c of the second and sn that of the first, or of the second where the first is 0.
  */
@@ -172,6 +176,8 @@ static inline const char *tessarquin_text(uint32_t refusal)
         "a slice lent for the answer is too short",
         "14 was never given and is not used",
     };
+    if (refusal == TESSARQUIN_TIME)
+        return "a TRIGGER_TIME is less than the one before it";
     return refusal < sizeof texts / sizeof *texts ? texts[refusal] : "no refusal has this number";
 }
 

@@ -1,7 +1,7 @@
 /*
  * Blocks for the tests and the counts: segments of bytes or words, with trigger times or without. Gain 0.5, offset
- * 0.25, interval 0.25, horizontal offset -1; the n-th segment's TRIGGER_OFFSET is n - 1; the bytes of the samples are
- * FD, 04, .., each 7 more than the one before.
+ * 0.25, interval 0.25, horizontal offset -1; the n-th segment's TRIGGER_TIME is 100 n and its TRIGGER_OFFSET n - 1; the
+ * bytes of the samples are FD, 04, .., each 7 more than the one before.
  */
 #ifndef BLOCKS_H
 #define BLOCKS_H
@@ -66,8 +66,10 @@ static inline void put_block(uint8_t *block, struct shape s)
     put_float(block, s.order, 160, 0.25f);
     put_float(block, s.order, 176, 0.25f);
     put_double(block, s.order, 180, -1.0);
-    for (size_t n = 0; n < trigger_bytes(s) / 16; n++)
+    for (size_t n = 0; n < trigger_bytes(s) / 16; n++) {
+        put_double(block, s.order, DESCRIPTOR_BYTES + 16 * n, 100.0 * (double)(n + 1));
         put_double(block, s.order, DESCRIPTOR_BYTES + 16 * n + 8, (double)n);
+    }
     for (size_t i = 0; i < sample_bytes(s); i++)
         block[samples_at(s) + i] = (uint8_t)(0xFD + 7 * i);
 }

@@ -5,6 +5,8 @@
 #include "blocks.h"
 #include "tessarquin.h"
 
+#include <float.h>
+#include <math.h>
 #include <stdio.h>
 #include <stdlib.h>
 #include <sys/mman.h>
@@ -231,6 +233,33 @@ static void test_headers(void)
     unmap(nine);
 }
 
+/* No TRIGGER_TIME is less than the one before it; the offsets fall. 8 comes first, and 20 before what is asked. */
+static void test_times(int order)
+{
+    now = order ? "trigger times, low byte first" : "trigger times, high byte first";
+    static const struct { double times[4], last_offset; uint32_t refusal; } tables[] = {
+        {{0, 1, 2, 3}, -3, 0}, {{5, 5, 5, 5}, -3, 0}, {{0.0, -0.0, 0.0, -0.0}, -3, 0}, {{-3, -2, 0x1p-1074, DBL_MAX}, -3, 0},
+        {{1, 1 - DBL_EPSILON / 2, 2, 3}, -3, TESSARQUIN_TIME}, {{0, 1, 3, 2}, -3, TESSARQUIN_TIME},
+        {{-2, -3, -1, 0}, -3, TESSARQUIN_TIME}, {{-0.0, 0x1p-1074, 0.0, 1}, -3, TESSARQUIN_TIME},
+        {{3, 2, 1, INFINITY}, -3, TESSARQUIN_FLOAT}, {{3, 2, 1, 0}, NAN, TESSARQUIN_FLOAT}, {{0, 1, 2, 3}, INFINITY, TESSARQUIN_FLOAT}};
+    static const uint32_t none_such[4] = {0, 0, 9, 9}, last[4] = {0, 0, 0, 4};
+    for (size_t i = 0; i < sizeof tables / sizeof *tables; i++) {
+        struct slice b = make(order, 1, 4, 3, 1), out = lend(400);
+        for (size_t n = 0; n < 4; n++) {
+            put_double(b.bytes, order, DESCRIPTOR_BYTES + 16 * n, tables[i].times[n]);
+            put_double(b.bytes, order, DESCRIPTOR_BYTES + 16 * n + 8, n < 3 ? -(double)n : tables[i].last_offset);
+        }
+        uint32_t refusal = tables[i].refusal;
+        check(opens(b, 40) == refusal && opens(b, 0) == (refusal ? refusal : TESSARQUIN_ROOM), "open");
+        check(point(b, 3, 9, 9, 0) == (refusal ? refusal : TESSARQUIN_CHOICE), "point");
+        check(fill(b, 3, 9, 0, 0) == (refusal ? refusal : TESSARQUIN_CHOICE), "fill");
+        check(cut(b, none_such, 2, out, 0) == (refusal ? refusal : TESSARQUIN_CHOICE), "cut");
+        check(cut(b, last, !order, out, 16) == refusal, "a cut of the last segment");
+        give_back(out, refusal ? 0 : (size_t)answers[1]);
+        unmap(b);
+    }
+}
+
 static void test_refusals(void)
 {
     now = "refusals";
@@ -271,7 +300,9 @@ static void test_texts(void)
     for (uint32_t n = 0; n <= 14; n++)
         check(*tessarquin_text(n) && (n == 0 || strcmp(tessarquin_text(n), tessarquin_text(n - 1)) != 0), "two are the same");
     check(strcmp(tessarquin_text(14), "14 was never given and is not used") == 0, "14 says something else");
-    check(strcmp(tessarquin_text(15), tessarquin_text(UINT32_MAX)) == 0, "no number, no text of its own");
+    check(strcmp(tessarquin_text(TESSARQUIN_TIME), "a TRIGGER_TIME is less than the one before it") == 0, "20 says something else");
+    for (uint32_t n = 15; n <= 21; n++)
+        check(n == TESSARQUIN_TIME || strcmp(tessarquin_text(n), tessarquin_text(UINT32_MAX)) == 0, "no number, no text of its own");
 }
 
 int main(void)
@@ -282,6 +313,8 @@ int main(void)
     test_cut(1);
     test_behind_names();
     test_headers();
+    test_times(0);
+    test_times(1);
     test_refusals();
     test_texts();
     printf("calls: %u checks held\n", checked);

@@ -1,29 +1,30 @@
 //! The comparison: every reply against that of the independent implementation, byte for byte.
 
 use crate::request::{Calls, Core, Reply, Request};
+use std::collections::BTreeMap;
 
-/// How many refusal numbers there are; 0 is counted with them.
-const NUMBERS: usize = 14;
+/// The refusals that a run must see: all that the four calls give.
+const REFUSALS: [u32; 14] = [1, 2, 3, 4, 5, 6, 7, 8, 9, 10, 11, 12, 13, 20];
 
 /// What has been compared so far.
 #[derive(Default)]
 pub struct Tally {
     pub calls: u64,
-    /// How often each number came, 0 to 13.
-    pub seen: [u64; NUMBERS],
+    /// How often each number came, 0 among them; one that never came is not in it.
+    pub seen: BTreeMap<u32, u64>,
     /// Blocks that a cut wrote and that were opened.
     pub cut_blocks: u64,
 }
 
 impl Tally {
     /// The refusal numbers that never came.
-    pub fn unseen(&self) -> Vec<usize> {
-        (1..NUMBERS).filter(|number| self.seen[*number] == 0).collect()
+    pub fn unseen(&self) -> Vec<u32> {
+        REFUSALS.into_iter().filter(|number| !self.seen.contains_key(number)).collect()
     }
 
     /// The counts in words.
     pub fn numbers(&self) -> String {
-        let counts = self.seen.iter().enumerate().map(|(number, n)| format!("{number}: {n}"));
+        let counts = self.seen.iter().map(|(number, n)| format!("{number}: {n}"));
         counts.collect::<Vec<_>>().join(", ")
     }
 }
@@ -57,7 +58,7 @@ impl<'a> Checker<'a> {
             self.difference(request, &[format!("expected {}, and {why}", expected.number)])
         })?;
         self.tally.calls += 1;
-        self.tally.seen[expected.number as usize] += 1;
+        *self.tally.seen.entry(expected.number).or_default() += 1;
         if came != expected {
             return Err(self.difference(request, &differences(&expected, &came)));
         }

@@ -1,4 +1,5 @@
-//! The document's checked examples, and the descriptor's table held against its own words.
+//! The document's checked examples and the requests', and the descriptor's table held against its
+//! own words.
 
 use crate::draft::Draft;
 use crate::law::calls;
@@ -159,6 +160,25 @@ fn refusals() {
     assert_eq!(changed(|draft| draft.set_long(FIRST_POINT, 268_435_455)), 7);
     assert_eq!(open(&Draft::plain(Order::HiFirst).bytes()).unwrap_err(), Refusal::Count);
     // L 346
+}
+
+#[test]
+fn trigger_times() {
+    for order in BOTH {
+        let number_with = |entries: &[[f64; 2]]| {
+            let mut segmented = draft(order, &vec![0; entries.len()], 1);
+            let bits: Vec<u64> = entries.iter().flatten().map(|number| number.to_bits()).collect();
+            segmented.trigtime = segmented.doubles(&bits);
+            segmented.set_long(SUBARRAY_COUNT, entries.len() as i64);
+            segmented.fit_lengths();
+            number_of(&segmented.bytes())
+        };
+        assert_eq!(number_with(&[[-2.0, 5.0], [-1.0, 4.0], [0.5, 3.0], [0.5, 2.0], [7.0, 1.0]]), 0);
+        // Segment 5 before segment 4
+        assert_eq!(number_with(&[[0.0, 0.0], [1.0, 0.0], [2.0, 0.0], [4.0, 0.0], [3.0, 0.0]]), 20);
+        assert_eq!(number_with(&[[0.0, 0.0], [-0.0, 0.0], [0.0, 0.0]]), 0);
+        assert_eq!(number_with(&[[4.0, 0.0], [3.0, 0.0], [5.0, f64::INFINITY]]), 8);
+    }
 }
 
 #[test]

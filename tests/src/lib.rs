@@ -15,6 +15,7 @@ pub mod request;
 pub mod results;
 pub mod runner;
 pub mod shape;
+pub mod times;
 
 #[cfg(test)]
 mod examples;

@@ -6,6 +6,7 @@ use crate::law::descriptor::*;
 use crate::law::numbers::{read_signed, Order};
 use crate::law::rules::LAST_PLACE;
 use crate::random::Random;
+use crate::times;
 
 #[derive(Clone, Copy, PartialEq)]
 pub enum Table {
@@ -157,18 +158,22 @@ impl Shape {
         }
     }
 
+    /// TRIGGER_TIMEs that do not run backwards; TRIGGER_OFFSETs and RIS_OFFSETs are free.
     fn set_tables(&self, draft: &mut Draft, random: &mut Random) {
         let interval = f32::from_bits(draft.long(HORIZ_INTERVAL) as u32);
-        let mut doubles = |count: i64| {
-            let bits: Vec<u64> =
-                (0..count).map(|_| self.time_offset(draft, interval, random)).collect();
-            draft.doubles(&bits)
+        let mut offsets = |count: i64| -> Vec<u64> {
+            (0..count).map(|_| self.time_offset(draft, interval, random)).collect()
         };
         match self.table {
             Table::None => (),
-            Table::Trigtime => draft.trigtime = doubles(2 * self.segments()),
+            Table::Trigtime => {
+                let offsets = offsets(self.segments());
+                let times = times::ascending(random, offsets.len()).into_iter();
+                let entries = times.zip(offsets).map(|(time, offset)| [time.to_bits(), offset]);
+                draft.trigtime = draft.doubles(&entries.collect::<Vec<_>>().concat());
+            }
             Table::Ristime(entries) => {
-                draft.ristime = doubles(entries);
+                draft.ristime = draft.doubles(&offsets(entries));
                 draft.set_word(RIS_SWEEPS, entries);
             }
         }

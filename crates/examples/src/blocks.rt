@@ -3,13 +3,15 @@ ghost use Prim.Native.Nat.{_≤_};
 ghost use lib.ListN.{length};
 
 // The payload's length of each shape: 0 the scope document's example, 1 with two segments and their trigger times, 2 with one RIS offset, 3 with
-// a second array, 4 with a trigger time and a RIS offset, 5 the example with old bytes behind the zero bytes of its names.
+// a second array, 4 with a trigger time and a RIS offset, 5 the example with old bytes behind the zero bytes of its names, 6 as 1 with trigger times
+// that run backwards.
 pub fn payload(shape: u32) -> u32 {
     match shape {
         1 => 380,
         2 => 356,
         3 => 350,
         4 => 372,
+        6 => 380,
         _ => 348,
     }
 }
@@ -17,7 +19,7 @@ pub fn payload(shape: u32) -> u32 {
 // A block of a shape, at the start of out.
 pub fn make(shape: u32, out: &mut [u8; 512]) {
     plain(payload(shape), out);
-    if shape == 1 {
+    if (shape == 1) | (shape == 6) {
         numbers::put_u32(32, 1, out, 11 + 48);
         numbers::put_u32(2, 1, out, 11 + 144);
     }
@@ -34,6 +36,9 @@ pub fn make(shape: u32, out: &mut [u8; 512]) {
     if shape == 5 {
         copies::copy_bytes(b"OLD", 0, 3, out, 11 + 9);
         copies::copy_bytes(b"BYTES", 0, 5, out, 11 + 27);
+    }
+    if shape == 6 {
+        numbers::put_u32(0x3ff0_0000, 1, out, 11 + 350);
     }
 }
 

@@ -27,6 +27,13 @@ fn point() {
     asks::points(b"point 0 of segment g", 1, 1, 2, 0);
     asks::points(b"point 1 of segment g + 1", 1, 1, 3, 1);
     asks::points(b"point M", 0, 1, 1, 2);
+    asks::points(
+        b"point M of segment 0 of array 3, TRIGGER_TIMEs 1 and 0",
+        6,
+        3,
+        0,
+        1,
+    );
 }
 
 // 9, 10 and 13 of a fill
@@ -35,6 +42,13 @@ fn fill() {
     asks::fills(b"a fill of segment 0, no room", 0, 1, 0, 0);
     asks::fills(b"a fill with room for M - 1", 0, 1, 1, 1);
     asks::fills(b"a fill with room for M", 0, 1, 1, 2);
+    asks::fills(
+        b"a fill of array 3, segment 0, no room, TRIGGER_TIMEs 1 and 0",
+        6,
+        3,
+        0,
+        0,
+    );
 }
 
 // 9 to 13 of a cut
@@ -71,6 +85,13 @@ fn cut() {
     );
     asks::cuts(b"a cut with room for a byte less", 0, all, 0, 358);
     asks::cuts(b"a cut with just the room", 0, all, 0, 359);
+    asks::cuts(
+        b"a cut in the order 2, no room, TRIGGER_TIMEs 1 and 0",
+        6,
+        all,
+        2,
+        0,
+    );
 }
 
 // a cut writes #9, which may be six bytes more than the block has

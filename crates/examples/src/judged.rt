@@ -1,4 +1,4 @@
-// Blocks that are opened: the boundaries of refusals 1 to 8.
+// Blocks that are opened: the boundaries of refusals 1 to 8 and 20.
 // Numbers are stored at places of the slice: a field's offset and 11.
 use crate::asks;
 
@@ -14,6 +14,7 @@ pub fn all() {
     index();
     floats();
     table_floats();
+    times();
 }
 
 // 1
@@ -168,4 +169,61 @@ fn table_floats() {
     asks::opens(b"the last TRIGGER_OFFSET is infinite", 1, 385, 0x7ff0_0000);
     asks::opens(b"a RIS offset is not a number", 2, 361, 0x7ff8_0000);
     asks::opens(b"a sample like a NaN", 0, 356, 0x7ff8_0000);
+}
+
+// 20: two TRIGGER_TIMEs, at 357 and 373, their high words at 361 and 377
+fn times() {
+    asks::opens_two(
+        b"TRIGGER_TIMEs 1 and 1",
+        1,
+        361,
+        0x3ff0_0000,
+        377,
+        0x3ff0_0000,
+    );
+    asks::opens_two(
+        b"TRIGGER_TIMEs 1 and 2",
+        1,
+        361,
+        0x3ff0_0000,
+        377,
+        0x4000_0000,
+    );
+    asks::opens_two(
+        b"TRIGGER_TIMEs 2 and 1",
+        1,
+        361,
+        0x4000_0000,
+        377,
+        0x3ff0_0000,
+    );
+    asks::opens_two(
+        b"TRIGGER_TIMEs -2 and -1",
+        1,
+        361,
+        0xc000_0000,
+        377,
+        0xbff0_0000,
+    );
+    asks::opens_two(
+        b"TRIGGER_TIMEs -1 and -2",
+        1,
+        361,
+        0xbff0_0000,
+        377,
+        0xc000_0000,
+    );
+    asks::opens(b"TRIGGER_TIMEs 0 and the least above it", 1, 373, 1);
+    asks::opens(b"TRIGGER_TIMEs the least above 0 and 0", 1, 357, 1);
+    asks::opens(b"TRIGGER_TIMEs 0 and -0", 1, 377, 0x8000_0000);
+    asks::opens(b"TRIGGER_TIMEs -0 and 0", 1, 361, 0x8000_0000);
+    asks::opens(b"TRIGGER_OFFSETs 1 and 0", 1, 369, 0x3ff0_0000);
+    asks::opens_two(
+        b"TRIGGER_TIMEs 1 and 0, the last TRIGGER_OFFSET infinite",
+        1,
+        361,
+        0x3ff0_0000,
+        385,
+        0x7ff0_0000,
+    );
 }

@@ -13,7 +13,7 @@ use borrow.Author.Tests.{ltb-true, ltb-false, leb-true, eqb-true, lt-leb, le-leb
 use Rattle.rules.specs.Numbers.{Bytes, number, low, pieces, upFrom}
 use Rattle.rules.specs.Template.{template, widthAt, fields}
 use Rattle.rules.specs.Wave.{Wave, headOf, parts, waveOf, decode}
-use Rattle.rules.specs.Rules.{all, first, every?, digit?, digitCount, stated, payloadStart, payload, frame, sized, named, formed, tiled, counted, placed, measured, inner, rules, refusal, opened}
+use Rattle.rules.specs.Rules.{all, first, every?, digit?, digitCount, stated, payloadStart, payload, frame, sized, named, formed, tiled, counted, placed, measured, timed, inner, rules, refusal, opened}
 use Rattle.rules.specs.Points.{value, sample, time, ruleOf}
 use Rattle.rules.proofs.Tests.{all-each, first-alike}
 use Rattle.rules.proofs.Facts.{Sized, sized-says, sized-there, tiled-says}
@@ -166,7 +166,7 @@ module _ (s t : List ℕ) (a : Alike s t) where
         ∙ λ i. waveOf mixed (take (h 36) (payload t) ∷ pieces (h 40 ∷ h 44 ∷ h 48 ∷ h 52 ∷ h 56 ∷ h 60 ∷ h 64 ∷ h 68 ∷ h 72 ∷ []) (d i))
 
     inner-alike : first (inner (payload t) (decode (payload t))) ≡ first (inner (payload s) (decode (payload s)))
-    unfolding inner decode waveOf named formed tiled counted placed measured upFrom mixed
+    unfolding inner decode waveOf named formed tiled counted placed measured timed upFrom mixed
     inner-alike =
         let h : ℕ → ℕ = headOf (payload s) in
         let b34 : getD (payload t) 34 0 ≡ getD (payload s) 34 0 = byte-alike 34 (omega (arith, z .least)) refl in
@@ -174,7 +174,7 @@ module _ (s t : List ℕ) (a : Alike s t) where
         first-alike 3 (ap (λ (g : ℕ → ℕ). all (named g)) head-alike)
         (λ _. first-alike 4 (λ i. all (leb (b34 i) 1 ∷ eqb (b35 i) 0 ∷ leb (head-alike i 32) 1 ∷ []))
         (λ _. first-alike 5 (ap₂ {C = Bool} (λ n g. all (tiled n g)) length-alike head-alike)
-        (λ e. ap (λ (w : Wave). first ((6, counted (w .head)) ∷ (7, placed (w .head)) ∷ (8, measured w) ∷ [])) (wave-alike (tiled-says (length (payload s)) h (all-each (tiled (length (payload s)) h) e) .descriptor)))))
+        (λ e. ap (λ (w : Wave). first ((6, counted (w .head)) ∷ (7, placed (w .head)) ∷ (8, measured w) ∷ (20, timed w) ∷ [])) (wave-alike (tiled-says (length (payload s)) h (all-each (tiled (length (payload s)) h) e) .descriptor)))))
 
   pub behind-free : refusal t ≡ refusal s
   unfolding refusal rules

@@ -1,6 +1,7 @@
 //! Edges that need a long block: few cases take them.
 
 use super::shapes::*;
+use super::times::{break_at, last_pair, set_from_zero};
 use super::{as_it_is, edge, Edge};
 use crate::draft::Draft;
 use crate::law::descriptor::SIZE;
@@ -24,6 +25,8 @@ pub static EDGES: &[Edge] = &[
         let last = d.trigtime.len() - 8;
         d.trigtime[last..].fill(0xFF);
     }),
+    edge(0, "65,537 TRIGGER_TIMEs from zero up", long_trigtime, set_from_zero),
+    edge(20, "last of 65,537 TRIGGER_TIMEs", long_trigtime, |d, r| break_at(d, r, last_pair(d))),
 ];
 
 /// Lengthens the user text until the payload has so many bytes, under a header of so many digits.

@@ -1,4 +1,4 @@
-//! Every clause of refusals 1 to 8, just inside and just outside. An edge first asks for a shape,
+//! Every clause of refusals 1 to 8 and 20, just inside and just outside. An edge first asks for a shape,
 //! then changes the right block made of it; alone, it makes `open` answer its number.
 
 mod counts;
@@ -6,6 +6,7 @@ mod frame;
 mod large;
 mod scale;
 mod shapes;
+mod times;
 
 use crate::draft::Draft;
 use crate::law::descriptor::{SUBARRAY_COUNT, WAVE_ARRAY_COUNT};
@@ -22,7 +23,7 @@ pub struct Edge {
 
 /// The edges that take turns.
 pub fn edges() -> Vec<&'static Edge> {
-    [frame::EDGES, counts::EDGES, scale::EDGES].into_iter().flatten().collect()
+    [frame::EDGES, counts::EDGES, scale::EDGES, times::EDGES].into_iter().flatten().collect()
 }
 
 /// The edges that need a long block.

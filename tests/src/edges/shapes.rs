@@ -39,7 +39,8 @@ pub fn no_subarrays(shape: &mut Shape, _: &mut Random) {
 }
 
 pub fn many_segments(shape: &mut Shape, random: &mut Random) {
-    shape.subarrays = random.range(2, 8);
+    let any = random.range(2, 8);
+    shape.subarrays = random.pick(&[2, any]);
     if shape.table != Table::None {
         shape.table = Table::Trigtime;
     }
@@ -109,6 +110,30 @@ pub fn trigtime_of_one(shape: &mut Shape, random: &mut Random) {
 pub fn trigtime_no_subarrays(shape: &mut Shape, _: &mut Random) {
     shape.subarrays = 0;
     shape.table = Table::Trigtime;
+}
+
+/// TRIGTIME of so many entries, and few points.
+pub fn entries(shape: &mut Shape, random: &mut Random, count: i64) {
+    shape.subarrays = count;
+    shape.points = random.range(1, 4);
+    shape.table = Table::Trigtime;
+}
+
+pub fn hundreds(shape: &mut Shape, random: &mut Random) {
+    let count = random.range(200, 400);
+    entries(shape, random, count);
+}
+
+pub fn two_or_more(shape: &mut Shape, random: &mut Random) {
+    let few = random.range(2, 8);
+    let many = random.range(18, 400);
+    let count = random.pick(&[2, 3, few, few, 16, 17, many]);
+    entries(shape, random, count);
+}
+
+pub fn four_or_more(shape: &mut Shape, random: &mut Random) {
+    two_or_more(shape, random);
+    shape.subarrays = shape.subarrays.max(4);
 }
 
 pub fn ristime(shape: &mut Shape, random: &mut Random) {

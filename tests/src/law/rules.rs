@@ -1,9 +1,11 @@
-//! Refusals 1 to 8: a block is opened, or refused with the number of the first rule it breaks.
+//! Refusals 1 to 8 and 20: a block is opened, or refused with the number of the first rule that it
+//! breaks.
 
 use super::descriptor::*;
 use super::numbers::{read_double, Order};
 
-/// The refusals, with the document's numbers. 14 was never given and is not used.
+/// The refusals, with the document's numbers. 14 was never given and is not used; none of the four
+/// calls gives 15 to 19.
 #[derive(Clone, Copy, Debug, PartialEq, Eq)]
 pub enum Refusal {
     Frame = 1,
@@ -19,6 +21,7 @@ pub enum Refusal {
     Point,
     Sparse,
     Room,
+    Time = 20,
 }
 
 pub const SHORTEST_PAYLOAD: usize = SIZE;
@@ -26,8 +29,8 @@ pub const LONGEST_PAYLOAD: usize = 16_777_216;
 /// The highest place in the scope's trace buffer, and the highest sparsing.
 pub const LAST_PLACE: i64 = 268_435_455;
 
-/// A block that obeys rules 1 to 8. Each part is the part of the payload that bears its name,
-/// empty where the block has none.
+/// A block that obeys rules 1 to 8 and 20. Each part is the part of the payload that bears its
+/// name, empty where the block has none.
 #[derive(Debug)]
 pub struct Opened<'a> {
     pub order: Order,
@@ -67,7 +70,7 @@ pub fn refuse(broken: bool, refusal: Refusal) -> Result<(), Refusal> {
     Ok(())
 }
 
-/// Opens a block: rules 1 to 8 in their order.
+/// Opens a block: rules 1 to 8 in their order, then 20.
 pub fn open(block: &[u8]) -> Result<Opened<'_>, Refusal> {
     let start = frame(block)?;
     let payload = length(block, start)?;
@@ -78,6 +81,7 @@ pub fn open(block: &[u8]) -> Result<Opened<'_>, Refusal> {
     let opened = parts(&descriptor);
     index(&descriptor, &opened)?;
     float(&opened)?;
+    time(&opened)?;
     Ok(opened)
 }
 
@@ -237,4 +241,12 @@ fn float(opened: &Opened) -> Result<(), Refusal> {
 /// Whether a table of doubles has only finite ones.
 fn finite(table: &[u8], order: Order) -> bool {
     table.chunks(8).all(|bytes| read_double(bytes, order).is_finite())
+}
+
+/// 20 TIME: within TRIGTIME no TRIGGER_TIME is less than the one before it.
+fn time(opened: &Opened) -> Result<(), Refusal> {
+    // TRIGGER_TIME is the first double of an entry's two.
+    let trigger_time = |entry: &[u8]| read_double(&entry[..8], opened.order);
+    let times: Vec<f64> = opened.trigtime.chunks(16).map(trigger_time).collect();
+    refuse(times.windows(2).any(|pair| pair[1] < pair[0]), Refusal::Time)
 }
