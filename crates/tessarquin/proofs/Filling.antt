@@ -1,6 +1,5 @@
 -- What a place before a segment's first point says of its samples: they are in the block (`samples-room`), and their bits are the fill's (`bits-are`).
 use mathlib.Core.Path.{_≡_, refl, sym, ap, ap₂, _∙_, subst}
-use mathlib.Core.Bool.{true}
 use mathlib.Core.List.{List, _++_, map, flatten, map-map}
 use Prim.Native.Nat.{ℕ, suc, _+_, _-_, _*_, _≤_, _<_}
 use native.Mathlib.Nat.{suc-mul}
@@ -9,17 +8,19 @@ use lib.ListN.{length, drop, length-map}
 use lib.Ieee.{Float, binary32, binary64, ofBits, toBits}
 use Rattle.rules.specs.Numbers.{Bytes, bytes, upFrom, splice}
 use Rattle.rules.specs.Wave.{points}
-use Rattle.rules.specs.Rules.{refusal, opened, finite32}
+use Rattle.rules.specs.Rules.{refusal, opened}
 use Rattle.rules.specs.Points.{value, walkRefusal}
 use Rattle.rules.proofs.Numbers.{length-allBytes}
 use Rattle.rules.proofs.Thin.{length-upFrom}
 use Rattle.rules.proofs.Opened.{good-opened, shape-opened}
+use Rattle.scale.specs.Scale.{FiniteValue}
 use Rattle.fills.specs.Fills.{valueAt, bitsAt}
 use Rattle.block.specs.Opened.{openedAs}
 use Rattle.points.specs.declared.walk.Place.{Place}
 use Rattle.points.specs.Steps.{Lent}
 use Rattle.points.specs.Walks.{acceptedPlace, placeOf}
 use Rattle.points.proofs.Refusals.{walk-points, walk-accepts}
+use Rattle.points.proofs.Stepping.{single-sound}
 use Rattle.points.proofs.Values.{room, value-at}
 use Rattle.points.proofs.Fillings.{map-up}
 use Rattle.points.proofs.Walking.{begins}
@@ -48,11 +49,11 @@ module _ (s : List ℕ) (b : Bytes s) (a n : ℕ) (p : Place) (e : p ≡ placeOf
   pub kind-small : p .kind ≤ 1
   kind-small = subst (λ (x : Place). x .kind ≤ 1) (sym is) (good-opened s b accepts .kind)
 
-  pub gain-finite : finite32 (p .gain) ≡ true
-  gain-finite = ap (λ (x : Place). finite32 (x .gain)) is ∙ good-opened s b accepts .floats .gain
-
-  pub offset-finite : finite32 (p .offset) ≡ true
-  offset-finite = ap (λ (x : Place). finite32 (x .offset)) is ∙ good-opened s b accepts .floats .offset
+  pub value-finite : FiniteValue (p .calibration)
+  value-finite =
+      let f = good-opened s b accepts .floats in
+      let h : ℕ → ℕ = opened s .head in
+      subst (λ (x : Place). FiniteValue (x .calibration)) (sym is) (single-sound (ofBits binary32 (h 156)) (h 156) refl (f .gain), single-sound (ofBits binary32 (h 160)) (h 160) refl (f .offset))
 
   pub points-are : p .points ≡ points (opened s .head)
   points-are = ap (λ (x : Place). x .points) is
@@ -68,19 +69,19 @@ module _ (s : List ℕ) (b : Bytes s) (a n : ℕ) (p : Place) (e : p ≡ placeOf
       (subst (λ (x : Place). x .samples + x .points * (x .kind + 1) ≤ length s) (sym is)
       (omega (arith, v, suc-mul m (q .kind + 1), room s b (openedAs s) a n m (each m (omega (arith, some))))))
 
-  bits : bitsAt (ofBits binary32 (p .gain)) (ofBits binary32 (p .offset)) (p .order) (p .kind + 1) s (p .samples) (p .points) ≡ fillBytes s a n
+  bits : bitsAt (p .calibration .gain) (p .calibration .offset) (p .order) (p .kind + 1) s (p .samples) (p .points) ≡ fillBytes s a n
   unfolding bitsAt
   bits =
       let q : Place = acceptedPlace s a n 0 in
       let f : ℕ → ℕ = λ k. toBits binary64 (value (opened s) a n k) in
-      ap {B = List ℕ} (λ (x : Place). bitsAt (ofBits binary32 (x .gain)) (ofBits binary32 (x .offset)) (x .order) (x .kind + 1) s (x .samples) (x .points)) is
-      ∙ ap {B = List ℕ} flatten (map-up (λ k. bytes 0 8 (toBits binary64 (valueAt (ofBits binary32 (q .gain)) (ofBits binary32 (q .offset)) (q .order) (q .kind + 1) s (q .samples) k))) (λ k. bytes 0 8 (f k)) 0 (q .points)
+      ap {B = List ℕ} (λ (x : Place). bitsAt (x .calibration .gain) (x .calibration .offset) (x .order) (x .kind + 1) s (x .samples) (x .points)) is
+      ∙ ap {B = List ℕ} flatten (map-up (λ k. bytes 0 8 (toBits binary64 (valueAt (q .calibration .gain) (q .calibration .offset) (q .order) (q .kind + 1) s (q .samples) k))) (λ k. bytes 0 8 (f k)) 0 (q .points)
       (λ k g h. ap (λ (x : Float). bytes 0 8 (toBits binary64 x)) (value-at s b (openedAs s) a n k (each k (omega arith)))))
       ∙ ap flatten (sym (map-map (bytes 0 8) f (upFrom 0 (q .points))))
 
   -- as the code has them: written over the start of a slice
-  pub bits-are : (size : ℕ) → p .kind + 1 ≡ size → (gain offset : Float) → gain ≡ ofBits binary32 (p .gain) → offset ≡ ofBits binary32 (p .offset) → (out : List ℕ)
-      → bitsAt gain offset (p .order) size s (p .samples) (p .points) ++ drop (p .points * 8) out ≡ splice out 0 (fillBytes s a n)
-  bits-are size es gain offset eg eo out =
+  pub bits-are : (size : ℕ) → p .kind + 1 ≡ size → (out : List ℕ)
+      → bitsAt (p .calibration .gain) (p .calibration .offset) (p .order) size s (p .samples) (p .points) ++ drop (p .points * 8) out ≡ splice out 0 (fillBytes s a n)
+  bits-are size es out =
       let l : p .points * 8 ≡ 0 + length (fillBytes s a n) = omega (arith, length-fill s a n, ap (λ (x : ℕ). x * 8) points-are) in
-      ap₂ {C = List ℕ} (λ x y. x ++ drop y out) ((λ i. bitsAt (eg i) (eo i) (p .order) (sym es i) s (p .samples) (p .points)) ∙ bits) l
+      ap₂ {C = List ℕ} (λ x y. x ++ drop y out) (ap (λ (x : ℕ). bitsAt (p .calibration .gain) (p .calibration .offset) (p .order) x s (p .samples) (p .points)) (sym es) ∙ bits) l

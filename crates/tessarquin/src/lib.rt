@@ -127,13 +127,12 @@ fn put_values(block: &[u8], array: u32, segment: u32, place: Place, out: &mut [u
 {
     let from = place.samples;
     let count = place.points as usize;
-    let gain = numbers::single(place.gain);
-    let offset = numbers::single(place.offset);
+    let c = place.calibration;
     if place.kind == 0 {
-        fills::put_bytes(block, from, count, gain, offset, out);
+        fills::put_bytes(block, from, count, c, out);
         return;
     }
-    fills::put_words(block, from, count, place.order, gain, offset, out);
+    fills::put_words(block, from, count, place.order, c, out);
 }
 
 // Two numbers of eight bytes from `at`, the high byte first.
