@@ -1,10 +1,9 @@
 -- The offset is read where it is in the block and finite.
-use mathlib.Core.Path.{_≡_, sym, ap, _∙_, subst}
-use mathlib.Core.Bool.{Bool, true, false, cond}
+use mathlib.Core.Path.{_≡_, sym, ap, _∙_}
+use mathlib.Core.Bool.{Bool, cond}
 use Prim.Native.Nat.{ℕ, _+_, _*_, _≤_}
 use native.Mathlib.Omega.{arith}
 use lib.ListN.{length, take, drop}
-use lib.Dec.{leb}
 use lib.Ieee.{binary64, nanBits, ofBits}
 use borrow.Author.Tests.{leb-true}
 use Rattle.rules.specs.Numbers.{number}
