@@ -14,23 +14,29 @@ use Rattle.rules.specs.Rules.{opened}
 use Rattle.rules.specs.Points.{value, walkRefusal}
 use Rattle.rules.proofs.Headers.{SameAnswers}
 use Rattle.points.specs.declared.answers.Point as answers
+use Rattle.points.specs.declared.answers.Filled.{Filled}
+use Rattle.points.specs.declared.walk.Step.{Step}
 use Rattle.points.specs.declared.walk.Step.the-variants.{Point}
 use Rattle.points.specs.Points.{pointBy, pointAs, filledBy, filledAs, outBy, filledOut}
-use Rattle.points.specs.Walks.{placeOf, stepAt, movedTo, placeAfter}
+use Rattle.points.specs.Walks.{stepAt, placeAfter}
+use Rattle.points.proofs.Learnt.{PointCall, FillCall, WalkedCall}
 use Rattle.points.proofs.Walking.{walk-steps, walk-ends, walk-refused, walked-is}
 
 module _ (s t : List ℕ) (e : SameAnswers s t) where
-  pub point-same : (a n k : ℕ) → pointAs t a n k ≡ pointAs s a n k
+  same-answer : (a n k : ℕ) → pointAs t a n k ≡ pointAs s a n k
   unfolding pointAs
-  point-same a n k = let p = e .same-point a n k in λ i. pointBy (p .0 i) (p .1 i) (p .2 i)
+  same-answer a n k = let p = e .same-point a n k in λ i. pointBy (p .0 i) (p .1 i) (p .2 i)
+
+  pub point-same : (a n k : ℕ) (x y : answers.Point) → PointCall s a n k x → PointCall t a n k y → y ≡ x
+  point-same a n k x y p q = q .2 ∙ same-answer a n k ∙ sym (p .2)
 
   -- a fill's answer, and what it leaves in out
-  pub fill-same : (a n : ℕ) (out : List Float) → (filledAs t a n (length out) ≡ filledAs s a n (length out)) × (filledOut t a n out ≡ filledOut s a n out)
+  pub fill-same : (a n : ℕ) (out : List Float) (x y : Filled) (left last : List Float) → FillCall s a n out x left → FillCall t a n out y last → (y ≡ x) × (last ≡ left)
   unfolding filledAs filledOut
-  fill-same a n out =
+  fill-same a n out x y left last p q =
       let r = e .same-fill a n (length out) in
       let w = e .same-wave in
-      (λ i. filledBy (r i) (points (w i .head)), λ i. outBy (r i) (map (value (w i) a n) (upFrom 0 (points (w i .head))) ++ drop (points (w i .head)) out) out)
+      (q .3 .0 ∙ (λ i. filledBy (r i) (points (w i .head))) ∙ sym (p .3 .0), q .3 .1 ∙ (λ i. outBy (r i) (map (value (w i) a n) (upFrom 0 (points (w i .head))) ++ drop (points (w i .head)) out) out) ∙ sym (p .3 .1))
 
   -- a walk's step after k others, and `walked` at k
   module _ (bs : Bytes s) (bt : Bytes t) (a n k : ℕ) where
@@ -44,7 +50,7 @@ module _ (s t : List ℕ) (e : SameAnswers s t) where
         at z true f =
             let l : k < points (opened s .head) = ltb-true k (points (opened s .head)) f in
             walk-steps t a n (e .same-walk a n ∙ z) bt k (omega (arith, m))
-            ∙ ap (λ (p : answers.Point). Point (p .value) (p .time)) (point-same a n k)
+            ∙ ap (λ (p : answers.Point). Point (p .value) (p .time)) (same-answer a n k)
             ∙ sym (walk-steps s a n z bs k l)
         at z false f =
             let l : points (opened s .head) ≤ k = ltb-false k (points (opened s .head)) f in
@@ -54,5 +60,5 @@ module _ (s t : List ℕ) (e : SameAnswers s t) where
         go zero z = at z (ltb k (points (opened s .head))) refl
         go (suc r) z = walk-refused t a n (λ y. omega (arith, e .same-walk a n)) k .1 ∙ sym (walk-refused s a n (λ y. omega arith) k .1)
 
-    pub walked-same : stepAt t (movedTo k (placeOf t a n)) ≡ stepAt s (movedTo k (placeOf s a n))
-    walked-same = walked-is t a n k ∙ step-same ∙ sym (walked-is s a n k)
+    pub walked-same : (x y : Step) → WalkedCall s a n k x → WalkedCall t a n k y → y ≡ x
+    walked-same x y p q = q .2 ∙ walked-is t a n k ∙ step-same ∙ sym (walked-is s a n k) ∙ sym (p .2)

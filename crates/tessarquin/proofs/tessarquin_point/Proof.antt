@@ -12,7 +12,7 @@ use Rattle.rules.specs.Points.{value, time, pointRefusal}
 use Rattle.rules.proofs.Numbers.{below-index}
 use Rattle.scale.proofs.Finite.{near-no-nan}
 use Rattle.points.specs.declared.answers.Point.{Point}
-use Rattle.points.proofs.Bounds.{point-number, point-answer, point-bounds}
+use Rattle.points.proofs.Bounds.{point-number, point-answer, answer-near}
 use Rattle.tessarquin.specs.Calls.{pointBytes, pointNumber, pointLeft}
 use Rattle.tessarquin.proofs.Slices.{pair-length, own-refused, own-short, own-left}
 use borrow.Author.Needs.{needs}
@@ -36,7 +36,7 @@ clean : (c : tie.Else1) → T (not (isNan (c .before .before .point .result .val
 clean c =
     let a = c .before .before .before .before .before .args in
     let e = c .before .before .point .ensures in
-    let q = point-bounds (a .block .now) (a .array) (a .segment) (a .point) (bytes (c .before .before .before .before)) (sym (ap (λ (x : Point). x .refusal) e) ∙ c .if1 .left) in
+    let q = answer-near (a .block .now) (a .array) (a .segment) (a .point) (bytes (c .before .before .before .before)) (sym (ap (λ (x : Point). x .refusal) e) ∙ c .if1 .left) in
     subst (λ (x : Point). T (not (isNan (x .value))) × T (not (isNan (x .time)))) (sym e) (near-no-nan (q .0), near-no-nan (q .1))
 
 point-requires : tie.Need-point-requires
