@@ -5,7 +5,7 @@ use std::process::ExitCode;
 use std::time::{Duration, Instant};
 
 use tessarquin_tests::cases;
-use tessarquin_tests::compare::{Checker, Difference};
+use tessarquin_tests::compare::{counts, Checker, Difference};
 use tessarquin_tests::request::LAW;
 use tessarquin_tests::runner::Runner;
 
@@ -91,12 +91,13 @@ fn run_all(options: &Options) -> Result<String, String> {
     if !unseen.is_empty() {
         return Err(format!("{cases} cases are too few: refusals {unseen:?} were never seen"));
     }
-    let (calls, cut_blocks, numbers) = (tally.calls, tally.cut_blocks, tally.numbers());
+    let cut_blocks = tally.cut_blocks;
     if cut_blocks == 0 {
         return Err(format!("{cases} cases are too few: no cut block was opened"));
     }
+    let (calls, by_name, numbers) = (tally.all_calls(), counts(&tally.calls), counts(&tally.seen));
     Ok(format!(
-        "{cases} cases, {calls} calls, no difference; {cut_blocks} cut blocks opened, none refused; numbers seen: {numbers}"
+        "{cases} cases, {calls} calls, no difference ({by_name}); {cut_blocks} cut blocks opened, none refused; numbers seen: {numbers}"
     ))
 }
 
