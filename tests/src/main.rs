@@ -6,7 +6,7 @@ use std::time::{Duration, Instant};
 
 use tessarquin_tests::cases;
 use tessarquin_tests::compare::{counts, Checker, Difference};
-use tessarquin_tests::request::LAW;
+use tessarquin_tests::request::{Call, LAW};
 use tessarquin_tests::runner::Runner;
 
 const USAGE: &str = "usage: compare [--seed S] [--cases N] [--case K] -- RUNNER [ARGUMENT..]
@@ -90,6 +90,9 @@ fn run_all(options: &Options) -> Result<String, String> {
     let unseen = tally.unseen();
     if !unseen.is_empty() {
         return Err(format!("{cases} cases are too few: refusals {unseen:?} were never seen"));
+    }
+    if tally.calls.len() < Call::NAMES {
+        return Err(format!("{cases} cases are too few: {:?} alone were asked", tally.calls));
     }
     let cut_blocks = tally.cut_blocks;
     if cut_blocks == 0 {

@@ -250,3 +250,18 @@ fn room(random: &mut Random, need: usize) -> usize {
         _ => need,
     }
 }
+
+#[cfg(test)]
+mod tests {
+    use super::*;
+
+    #[test]
+    fn no_nan_is_lent() {
+        let any = Random::new(9, 0).bytes(800_000);
+        let least = f64::from_bits(0x7FF0_0000_0000_0001);
+        let nans = [f64::NAN, -f64::NAN, least, -least].map(f64::to_le_bytes).concat();
+        for float in without_nans([any, nans].concat()).chunks(8) {
+            assert!(!f64::from_le_bytes(float.try_into().expect("eight bytes")).is_nan());
+        }
+    }
+}

@@ -47,6 +47,9 @@ pub enum Call {
 }
 
 impl Call {
+    /// How many calls there are, by name.
+    pub const NAMES: usize = 9;
+
     pub fn name(&self) -> &'static str {
         match self {
             Call::Open => "open",
