@@ -7,7 +7,8 @@ use crate::law::texts;
 use crate::random::Random;
 use crate::request::{Call, Request, LAW};
 
-/// The fill of a very long segment is asked with too little room, and takes no gigabyte.
+/// The fill of a very long segment, its walk and a very long text are asked with too little room,
+/// and take no gigabyte.
 const MOST_ROOM: usize = 1 << 22;
 
 /// The limits of a block's questions.
@@ -80,7 +81,7 @@ impl Extent {
         Call::Walk { array: self.array(random), segment: self.segment(random) }
     }
 
-    /// A step of a walk, often one behind its end.
+    /// A step of a walk, often behind its end.
     fn step(&self, random: &mut Random) -> Call {
         let (array, segment) = (self.array(random), self.segment(random));
         let behind = self.beyond(random, self.points - 1);
@@ -175,7 +176,9 @@ impl Extent {
 pub fn request<'a>(random: &mut Random, call: Call, block: &'a [u8]) -> Request<'a> {
     let (out_need, answer_need) = need(call, block);
     let unit = if call.takes_floats() { 8 } else { 1 };
-    let mut room = |need: usize| (unit * room(random, need / unit)).min(MOST_ROOM);
+    // A cut is hardly longer than its block.
+    let most = if matches!(call, Call::Cut { .. }) { usize::MAX } else { MOST_ROOM };
+    let mut room = |need: usize| (unit * room(random, need / unit)).min(most);
     let out_room = if out_need == 0 { 0 } else { room(out_need) };
     let answer_room = room(answer_need);
     with_room(random, call, block, out_room, answer_room)

@@ -7,43 +7,18 @@ use std::panic::{catch_unwind, AssertUnwindSafe};
 #[derive(Clone, Copy, Debug)]
 pub enum Call {
     Open,
-    Point {
-        array: u32,
-        segment: u32,
-        point: u32,
-    },
-    Fill {
-        array: u32,
-        segment: u32,
-    },
-    Cut {
-        sp: u32,
-        np: u32,
-        fp: u32,
-        sn: u32,
-        order: u32,
-    },
-    /// A fill of floats, in Rattle; these go to `answer`.
-    Floats {
-        array: u32,
-        segment: u32,
-    },
-    /// A walk until it is done: the values go to `out`, the times to `answer`.
-    Walk {
-        array: u32,
-        segment: u32,
-    },
-    /// The step of a walk after the first k.
-    Step {
-        array: u32,
-        segment: u32,
-        k: u32,
-    },
+    Point { array: u32, segment: u32, point: u32 },
+    Fill { array: u32, segment: u32 },
+    Cut { sp: u32, np: u32, fp: u32, sn: u32, order: u32 },
+    // A fill of floats, in Rattle; they go to `answer`.
+    Floats { array: u32, segment: u32 },
+    // A walk until it is done: the values go to `out`, the times to `answer`.
+    Walk { array: u32, segment: u32 },
+    // The step of a walk after the first k.
+    Step { array: u32, segment: u32, k: u32 },
     UserText,
-    /// The label, with a fallback of so many bytes.
-    Label {
-        fallback: usize,
-    },
+    // The label, with a fallback of so many bytes.
+    Label { fallback: usize },
 }
 
 impl Call {
