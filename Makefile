@@ -22,7 +22,7 @@ RUN := qemu-x86_64
 LISTING := qemu-x86_64 -L /usr/x86_64-linux-gnu target/bin/listing
 PACKAGES := gcc-x86-64-linux-gnu g++-x86-64-linux-gnu qemu-user
 endif
-CFLAGS := -std=gnu11 -O2 -Wall -Wextra -Werror -static -Iinclude
+CFLAGS := -std=gnu11 -O2 -Wall -Wextra -Werror -static -Iinclude -Icrates/measured
 INSTALL := DEBIAN_FRONTEND=noninteractive apt-get install -qy
 ARCHIVE := target/staticlib/libtessarquin.a
 MEASURED := target/staticlib/libmeasured.a
@@ -83,10 +83,10 @@ target/host/made: host/tests/made.c host/tests/blocks.h | tools
 	@mkdir -p target/host
 	@$(CC) $(CFLAGS) $< -o $@
 
-# The independent reader and the runner that makes the calls.
-compare: tools archive
+# The independent reader and the runner that makes the calls, the test calls of measured among them.
+compare: tools archive archive-measured
 	@cargo build -q $(CARGO) --workspace
-	@$(CC) $(CFLAGS) tests/runner.c $(ARCHIVE) -o target/tests/runner
+	@$(CC) $(CFLAGS) tests/runner.c $(ARCHIVE) $(MEASURED) -o target/tests/runner
 
 soak: compare
 	@target/tests/release/compare --cases $(N) --seed $(SEED) -- $(RUN) target/tests/runner

@@ -3,6 +3,7 @@
  * nanoseconds of one; bench stack prints how much stack each call takes.
  */
 #include "blocks.h"
+#include "measured.h"
 #include "same.h"
 #include "tessarquin.h"
 
@@ -10,13 +11,6 @@
 #include <stdlib.h>
 #include <time.h>
 #include <ucontext.h>
-
-/*
- * For counting only: the values of a segment as floats, by the fill, and by the walk, point by point. The walk's times
- * are not stored, so the compiler leaves them out.
- */
-uint32_t measured_fill(const uint8_t *block, size_t length, uint32_t array, uint32_t segment, double *out, size_t room);
-uint32_t measured_walk(const uint8_t *block, size_t length, uint32_t array, uint32_t segment, double *out, size_t room);
 
 static uint8_t *block, *out;
 static double *values;

@@ -1,10 +1,12 @@
-/* Takes calls from standard input and makes them in the library; answers on standard output with
- * the number and with all slices as the call left them. src/runner.rs is the other end.
+/* Takes calls from standard input and makes them in the library, or in the archive of the test calls;
+ * answers on standard output with the number and with all slices as the call left them. src/runner.rs
+ * is the other end.
  *
- * A request is nine numbers of four bytes, low byte first: the kind of call, five numbers for it,
- * and the lengths of block, out and answer; then the bytes of these three slices. A reply is two
+ * A request is ten numbers of four bytes, low byte first: the kind of call, five numbers for it, and
+ * the lengths of block, fallback, out and answer; then the bytes of these four slices. A reply is two
  * numbers, what the call returned and which slices have lost the known bytes before them (bit 0
- * block, 1 out, 2 answer); then the bytes of the slices again.
+ * block, 1 fallback, 2 out, 3 answer); then the bytes of the slices again. Floats are lent, and come
+ * back, as the bytes that they have in memory.
  *
  * Every slice ends where memory that cannot be touched begins, so a call that reads or writes
  * behind a slice ends this program by a signal. */
@@ -17,10 +19,11 @@
 #include <sys/mman.h>
 #include <sys/resource.h>
 
+#include "measured.h"
 #include "tessarquin.h"
 
-enum kind { PROBE, OPEN, POINT, FILL, CUT };
-enum { BLOCK, OUT, ANSWER, SLICES };
+enum kind { PROBE, OPEN, POINT, FILL, CUT, FLOATS, WALK, STEP, USER_TEXT, LABEL };
+enum { BLOCK, FALLBACK, OUT, ANSWER, SLICES };
 
 /* Memory that cannot be touched comes in pages; no machine has larger ones than this. */
 #define PAGE ((size_t)65536)
@@ -111,11 +114,22 @@ static uint32_t probe(const struct slice *slice, int behind)
     return 0;
 }
 
+/* The slice as floats: whole ones, so that it starts where a float may stand. */
+static double *floats(const struct slice *slice)
+{
+    if (slice->len % sizeof(double) != 0) {
+        fprintf(stderr, "%zu bytes are no whole floats\n", slice->len);
+        exit(2);
+    }
+    return (double *)start(slice);
+}
+
 static uint32_t call(enum kind kind, const uint32_t n[5], const struct slice lent[SLICES])
 {
-    const uint8_t *block = start(&lent[BLOCK]);
+    const uint8_t *block = start(&lent[BLOCK]), *fallback = start(&lent[FALLBACK]);
     uint8_t *out = start(&lent[OUT]), *answer = start(&lent[ANSWER]);
-    size_t block_len = lent[BLOCK].len, out_len = lent[OUT].len, answer_len = lent[ANSWER].len;
+    size_t block_len = lent[BLOCK].len, fallback_len = lent[FALLBACK].len;
+    size_t out_len = lent[OUT].len, answer_len = lent[ANSWER].len;
 
     switch (kind) {
     case PROBE:
@@ -128,6 +142,17 @@ static uint32_t call(enum kind kind, const uint32_t n[5], const struct slice len
         return tessarquin_fill(block, block_len, n[0], n[1], answer, answer_len);
     case CUT:
         return tessarquin_cut(block, block_len, n[0], n[1], n[2], n[3], n[4], out, out_len, answer, answer_len);
+    case FLOATS:
+        return measured_fill(block, block_len, n[0], n[1], floats(&lent[ANSWER]), answer_len / sizeof(double));
+    case WALK:
+        return measured_steps(block, block_len, n[0], n[1], floats(&lent[OUT]), out_len / sizeof(double),
+                              floats(&lent[ANSWER]), answer_len / sizeof(double));
+    case STEP:
+        return measured_step(block, block_len, n[0], n[1], n[2], floats(&lent[ANSWER]), answer_len / sizeof(double));
+    case USER_TEXT:
+        return measured_user_text(block, block_len, answer, answer_len);
+    case LABEL:
+        return measured_label(block, block_len, fallback, fallback_len, answer, answer_len);
     }
     fprintf(stderr, "no such call: %d\n", kind);
     exit(2);
@@ -137,7 +162,7 @@ int main(void)
 {
     static const struct rlimit none;
     static struct slice lent[SLICES];
-    uint8_t request[9 * 4], reply[2 * 4];
+    uint8_t request[10 * 4], reply[2 * 4];
 
     if (setrlimit(RLIMIT_CORE, &none) != 0) /* a signal is an answer: it leaves no file behind */
         fail("setrlimit");

@@ -37,7 +37,7 @@ fn main() {
         writeln!(modules, "#[path = {module:?}]\nmod wrong_{number};").expect("a string grows");
         writeln!(
             names,
-            "Version {{ title: {title:?}, breaks_demand_3: {breaks_demand_3}, breaks_a_rule: {breaks_a_rule}, hangs_on_header: {hangs_on_header}, calls: calls_of!(wrong_{number}::calls) }},"
+            "Version {{ title: {title:?}, breaks_demand_3: {breaks_demand_3}, breaks_a_rule: {breaks_a_rule}, hangs_on_header: {hangs_on_header}, calls: calls_of!(wrong_{number}) }},"
         )
         .expect("a string grows");
     }

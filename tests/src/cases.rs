@@ -149,10 +149,12 @@ fn ask_any(checker: &mut Checker, block: &[u8], random: &mut Random) -> Result<(
     ask_little(checker, block, random)
 }
 
-/// Each call once.
+/// Each C call once, and two of the test calls.
 fn ask_little(checker: &mut Checker, block: &[u8], random: &mut Random) -> Result<(), Difference> {
     let extent = Extent::of(block);
-    let calls = [Call::Open, extent.point(random), extent.fill(random), extent.cut(random)];
+    let mut calls = extent.c_calls(random);
+    let others = extent.test_calls(random);
+    calls.extend([random.pick(&others), random.pick(&others)]);
     ask(checker, block, random, &calls)
 }
 
@@ -163,6 +165,7 @@ fn ask_much(checker: &mut Checker, block: &[u8], random: &mut Random) -> Result<
     calls.extend((0..2).map(|_| extent.fill(random)));
     calls.extend((0..2).map(|_| extent.cut(random)));
     calls.extend((0..2).map(|_| extent.right_cut(random)));
+    calls.extend(extent.test_calls(random));
     ask(checker, block, random, &calls)
 }
 

@@ -2,14 +2,16 @@
 
 use crate::request::{Calls, Core, Reply, Request};
 use std::collections::BTreeMap;
+use std::fmt::Display;
 
-/// The refusals that a run must see: all that the four calls give.
+/// The refusals that a run must see: all that the calls give.
 const REFUSALS: [u32; 14] = [1, 2, 3, 4, 5, 6, 7, 8, 9, 10, 11, 12, 13, 20];
 
 /// What has been compared so far.
 #[derive(Default)]
 pub struct Tally {
-    pub calls: u64,
+    /// How often each call was made, by its name.
+    pub calls: BTreeMap<&'static str, u64>,
     /// How often each number came, 0 among them; one that never came is not in it.
     pub seen: BTreeMap<u32, u64>,
     /// Blocks that a cut wrote and that were opened.
@@ -22,11 +24,16 @@ impl Tally {
         REFUSALS.into_iter().filter(|number| !self.seen.contains_key(number)).collect()
     }
 
-    /// The counts in words.
-    pub fn numbers(&self) -> String {
-        let counts = self.seen.iter().map(|(number, n)| format!("{number}: {n}"));
-        counts.collect::<Vec<_>>().join(", ")
+    /// How many calls were made.
+    pub fn all_calls(&self) -> u64 {
+        self.calls.values().sum()
     }
+}
+
+/// Counts in words.
+pub fn counts<K: Display>(counts: &BTreeMap<K, u64>) -> String {
+    let counts = counts.iter().map(|(what, count)| format!("{what}: {count}"));
+    counts.collect::<Vec<_>>().join(", ")
 }
 
 /// A difference, in words.
@@ -57,8 +64,10 @@ impl<'a> Checker<'a> {
         let came = self.core.ask(request).map_err(|why| {
             self.difference(request, &[format!("expected {}, and {why}", expected.number)])
         })?;
-        self.tally.calls += 1;
-        *self.tally.seen.entry(expected.number).or_default() += 1;
+        *self.tally.calls.entry(request.call.name()).or_default() += 1;
+        if request.call.gives_refusal() {
+            *self.tally.seen.entry(expected.number).or_default() += 1;
+        }
         if came != expected {
             return Err(self.difference(request, &differences(&expected, &came)));
         }
@@ -76,7 +85,7 @@ impl<'a> Checker<'a> {
 }
 
 fn describe(request: &Request) -> String {
-    let Request { call, block, out, answer } = request;
+    let Request { call, block, out, answer, .. } = request;
     let (block, out, answer) = (block.len(), out.len(), answer.len());
     format!("{call}; block of {block}, out of {out}, answer of {answer}")
 }
@@ -90,6 +99,7 @@ fn differences(expected: &Reply, came: &Reply) -> Vec<String> {
         lines.push(format!("{slice}: the bytes before it have changed"));
     }
     lines.extend(slice_difference("block", &expected.block, &came.block));
+    lines.extend(slice_difference("fallback", &expected.fallback, &came.fallback));
     lines.extend(slice_difference("out", &expected.out, &came.out));
     lines.extend(slice_difference("answer", &expected.answer, &came.answer));
     lines

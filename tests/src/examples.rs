@@ -8,6 +8,7 @@ use crate::law::descriptor::*;
 use crate::law::numbers::{read, read_signed, store, Order};
 use crate::law::points::{sample, time, value};
 use crate::law::rules::{open, Opened, Refusal};
+use crate::law::{tested, texts};
 
 const BOTH: [Order; 2] = [Order::HiFirst, Order::LoFirst];
 
@@ -39,6 +40,19 @@ fn scaled(mut draft: Draft, gain: f32, offset: f32) -> Draft {
     draft.set_float(VERTICAL_OFFSET, offset.to_bits());
     draft
 }
+
+/// The block that the document lists, and the bits of its points' values and times.
+fn listed() -> Draft {
+    let mut draft = scaled(draft(Order::LoFirst, &[-3, 4], 1), 0.5, 0.25);
+    draft.set_float(HORIZ_INTERVAL, 0.25f32.to_bits());
+    draft.set_double(HORIZ_OFFSET, (-1f64).to_bits());
+    draft
+}
+
+const LISTED: [[u64; 2]; 2] = [
+    [0xBFFC_0000_0000_0000, 0xBFF0_0000_0000_0000],
+    [0x3FFC_0000_0000_0000, 0xBFE8_0000_0000_0000],
+];
 
 fn numbers(answer: &[u8]) -> Vec<u64> {
     answer.chunks(8).map(|bytes| read(bytes, Order::HiFirst)).collect()
@@ -183,26 +197,68 @@ fn trigger_times() {
 
 #[test]
 fn listing() {
-    let mut draft = scaled(draft(Order::LoFirst, &[-3, 4], 1), 0.5, 0.25);
-    draft.set_float(HORIZ_INTERVAL, 0.25f32.to_bits());
-    draft.set_double(HORIZ_OFFSET, (-1f64).to_bits());
-    let block = draft.bytes();
+    let block = listed().bytes();
     assert_eq!(&block[..11], b"#9000000348");
     let mut answer = [0; 40];
     assert_eq!(calls::open(&block, &mut answer), 0);
     assert_eq!(numbers(&answer), [1, 2, 1, 1, 0]);
-    let points = [
-        [0xBFFC_0000_0000_0000, 0xBFF0_0000_0000_0000],
-        [0x3FFC_0000_0000_0000, 0xBFE8_0000_0000_0000],
-    ];
     let mut values = [0; 16];
     assert_eq!(calls::fill(&block, 1, 1, &mut values), 0);
-    for (k, bits) in points.iter().enumerate() {
+    for (k, bits) in LISTED.iter().enumerate() {
         let mut answer = [0; 16];
         assert_eq!(calls::point(&block, 1, 1, k as u32, &mut answer), 0);
         assert_eq!(numbers(&answer), bits);
         assert_eq!(numbers(&values)[k], bits[0]);
     }
+}
+
+#[test]
+fn a_walk_hands_out_its_points_and_is_done() {
+    let block = listed().bytes();
+    let [mut values, mut times, mut floats] = [[7.0; 3]; 3];
+    assert_eq!(tested::steps(&block, 1, 1, &mut values, &mut times), 0);
+    assert_eq!(tested::floats(&block, 1, 1, &mut floats), 0);
+    for (k, bits) in LISTED.iter().enumerate() {
+        let mut point = [7.0; 2];
+        assert_eq!(tested::step(&block, 1, 1, k as u32, &mut point), 2);
+        assert_eq!(point.map(f64::to_bits), *bits);
+        assert_eq!([values[k], times[k]], point);
+        assert_eq!(floats[k], values[k]);
+    }
+    assert_eq!([values[2], times[2], floats[2]], [7.0; 3]);
+    for behind in [2, 3, u32::MAX] {
+        assert_eq!(tested::step(&block, 1, 1, behind, &mut [7.0; 2]), 0);
+    }
+    for (array, segment, number) in [(0, 1, 9), (2, 1, 9), (1, 0, 10), (1, 2, 10)] {
+        assert_eq!(tested::steps(&block, array, segment, &mut values, &mut times), number);
+        assert_eq!(tested::step(&block, array, segment, 0, &mut [7.0; 2]), 0);
+    }
+    assert_eq!(tested::steps(&block, 1, 1, &mut [7.0; 2], &mut [7.0; 1]), 13);
+    assert_eq!(tested::steps(&block, 1, 1, &mut [7.0; 1], &mut [7.0; 2]), 13);
+}
+
+#[test]
+fn labels_and_user_texts() {
+    let mut draft = listed();
+    let mut label_of = |label: &[u8]| {
+        draft.set_text(TRACE_LABEL, label);
+        texts::label(&draft.bytes(), b"name").to_vec()
+    };
+    assert_eq!(label_of(b""), b"name");
+    assert_eq!(label_of(b"C1\0old"), b"C1");
+    assert_eq!(label_of(b"\0"), b"name");
+    assert_eq!(label_of(b"fifteen of them\0"), b"fifteen of them");
+    assert_eq!(label_of(b"sixteen of these"), b"sixteen of these");
+    assert_eq!(texts::user_text(&draft.bytes()), b"");
+    draft.user_text = b"by hand\0\n".to_vec();
+    draft.fit_lengths();
+    assert_eq!(texts::user_text(&draft.bytes()), b"by hand\0\n");
+    draft.tail = vec![0];
+    assert_eq!(texts::user_text(&draft.bytes()), b"");
+    assert_eq!(texts::label(&draft.bytes(), b"name"), b"");
+    let mut out = [1; 3];
+    assert_eq!(tested::label(&listed().bytes(), b"name", &mut out), 4);
+    assert_eq!(out, [1; 3]);
 }
 
 #[test]

@@ -15,8 +15,7 @@ pub fn check(checker: &mut Checker, draft: &Draft, random: &mut Random) -> Resul
     }
     let other = other.bytes();
     let extent = Extent::of(&block);
-    let calls = [Call::Open, extent.point(random), extent.fill(random), extent.cut(random)];
-    for call in calls {
+    for call in [extent.c_calls(random), extent.test_calls(random)].concat() {
         let asked = request(random, call, &block);
         let first = checker.ask(&asked)?;
         let second = checker.ask(&Request { block: &other, ..asked })?;

@@ -5,8 +5,8 @@ use std::process::ExitCode;
 use std::time::{Duration, Instant};
 
 use tessarquin_tests::cases;
-use tessarquin_tests::compare::{Checker, Difference};
-use tessarquin_tests::request::LAW;
+use tessarquin_tests::compare::{counts, Checker, Difference};
+use tessarquin_tests::request::{Call, LAW};
 use tessarquin_tests::runner::Runner;
 
 const USAGE: &str = "usage: compare [--seed S] [--cases N] [--case K] -- RUNNER [ARGUMENT..]
@@ -91,12 +91,16 @@ fn run_all(options: &Options) -> Result<String, String> {
     if !unseen.is_empty() {
         return Err(format!("{cases} cases are too few: refusals {unseen:?} were never seen"));
     }
-    let (calls, cut_blocks, numbers) = (tally.calls, tally.cut_blocks, tally.numbers());
+    if tally.calls.len() < Call::NAMES {
+        return Err(format!("{cases} cases are too few: {:?} alone were asked", tally.calls));
+    }
+    let cut_blocks = tally.cut_blocks;
     if cut_blocks == 0 {
         return Err(format!("{cases} cases are too few: no cut block was opened"));
     }
+    let (calls, by_name, numbers) = (tally.all_calls(), counts(&tally.calls), counts(&tally.seen));
     Ok(format!(
-        "{cases} cases, {calls} calls, no difference; {cut_blocks} cut blocks opened, none refused; numbers seen: {numbers}"
+        "{cases} cases, {calls} calls, no difference ({by_name}); {cut_blocks} cut blocks opened, none refused; numbers seen: {numbers}"
     ))
 }
 

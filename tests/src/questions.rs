@@ -3,10 +3,12 @@
 
 use crate::law::cut::CUT_MORE;
 use crate::law::rules::{open, LAST_PLACE};
+use crate::law::texts;
 use crate::random::Random;
 use crate::request::{Call, Request, LAW};
 
-/// The fill of a very long segment is asked with too little room, and takes no gigabyte.
+/// The fill of a very long segment, its walk and a very long text are asked with too little room,
+/// and take no gigabyte.
 const MOST_ROOM: usize = 1 << 22;
 
 /// The limits of a block's questions.
@@ -69,6 +71,38 @@ impl Extent {
         let fp = random.pick(&[0, 0, near, near, self.points - 1]);
         let np = self.np(random, sp, fp);
         Call::Cut { sp, np, fp, sn: self.right_sn(random), order: random.below(2) as u32 }
+    }
+
+    fn floats(&self, random: &mut Random) -> Call {
+        Call::Floats { array: self.array(random), segment: self.segment(random) }
+    }
+
+    fn walk(&self, random: &mut Random) -> Call {
+        Call::Walk { array: self.array(random), segment: self.segment(random) }
+    }
+
+    /// A step of a walk, often behind its end.
+    fn step(&self, random: &mut Random) -> Call {
+        let (array, segment) = (self.array(random), self.segment(random));
+        let behind = self.beyond(random, self.points - 1);
+        let any = self.index(random);
+        Call::Step { array, segment, k: random.pick(&[any, any, behind]) }
+    }
+
+    fn label(&self, random: &mut Random) -> Call {
+        let any = random.below(40);
+        Call::Label { fallback: random.pick(&[0, 1, 15, 16, 17, any]) }
+    }
+
+    /// Each C call once.
+    pub fn c_calls(&self, random: &mut Random) -> Vec<Call> {
+        vec![Call::Open, self.point(random), self.fill(random), self.cut(random)]
+    }
+
+    /// Each test call once.
+    pub fn test_calls(&self, random: &mut Random) -> Vec<Call> {
+        let (floats, walk, step) = (self.floats(random), self.walk(random), self.step(random));
+        vec![floats, walk, step, Call::UserText, self.label(random)]
     }
 
     fn array(&self, random: &mut Random) -> u32 {
@@ -138,11 +172,15 @@ impl Extent {
     }
 }
 
-/// A request with room that is often just enough, sometimes one byte short.
+/// A request with room that is often just enough, sometimes one byte or one float short.
 pub fn request<'a>(random: &mut Random, call: Call, block: &'a [u8]) -> Request<'a> {
     let (out_need, answer_need) = need(call, block);
-    let out_room = if out_need == 0 { 0 } else { room(random, out_need) };
-    let answer_room = room(random, answer_need).min(MOST_ROOM);
+    let unit = if call.takes_floats() { 8 } else { 1 };
+    // A cut is hardly longer than its block.
+    let most = if matches!(call, Call::Cut { .. }) { usize::MAX } else { MOST_ROOM };
+    let mut room = |need: usize| (unit * room(random, need / unit)).min(most);
+    let out_room = if out_need == 0 { 0 } else { room(out_need) };
+    let answer_room = room(answer_need);
     with_room(random, call, block, out_room, answer_room)
 }
 
@@ -160,7 +198,28 @@ pub fn with_room<'a>(
     out_room: usize,
     answer_room: usize,
 ) -> Request<'a> {
-    Request { call, block, out: random.bytes(out_room), answer: random.bytes(answer_room) }
+    let fallback = match call {
+        Call::Label { fallback } => random.bytes(fallback),
+        _ => vec![],
+    };
+    let mut lent = |room: usize| match call.takes_floats() {
+        true => without_nans(random.bytes(room)),
+        false => random.bytes(room),
+    };
+    let (out, answer) = (lent(out_room), lent(answer_room));
+    Request { call, block, fallback, out, answer }
+}
+
+/// Bytes of floats, none of them a NaN: a contract says that a float is as it was, and the logic has
+/// one NaN, so it does not say which one a NaN is.
+fn without_nans(mut bytes: Vec<u8>) -> Vec<u8> {
+    for float in bytes.chunks_mut(8) {
+        // An exponent of all ones, half in each of the two high bytes, loses one of them.
+        if float[7] & 0x7F == 0x7F && float[6] & 0xF0 == 0xF0 {
+            float[6] &= 0xEF;
+        }
+    }
+    bytes
 }
 
 /// The bytes of `out` and `answer` that an answer takes; for a refused call, of some answer.
@@ -171,18 +230,41 @@ fn need(call: Call, block: &[u8]) -> (usize, usize) {
         Call::Fill { .. } => (0, 8 * Extent::of(block).points as usize),
         Call::Cut { .. } => {
             let (out, answer) = (vec![0; block.len() + CUT_MORE], vec![0; 16]);
-            let reply = LAW.reply(&Request { call, block, out, answer });
+            let reply = LAW.reply(&Request { call, block, fallback: vec![], out, answer });
             (if reply.number == 0 { reply.written().len() } else { 400 }, 16)
         }
+        Call::Floats { .. } => (0, 8 * Extent::of(block).points as usize),
+        Call::Walk { .. } => {
+            let points = Extent::of(block).points as usize;
+            (8 * points, 8 * points)
+        }
+        Call::Step { .. } => (0, 16),
+        Call::UserText => (0, texts::user_text(block).len()),
+        Call::Label { fallback } => (0, texts::label(block, &vec![0; fallback]).len()),
     }
 }
 
 fn room(random: &mut Random, need: usize) -> usize {
     match random.below(12) {
-        0 | 1 => need - 1,
-        2 => random.below(need),
+        0 | 1 => need.saturating_sub(1),
+        2 => random.below(need.max(1)),
         3 => random.pick(&[0, 1, 8, need / 2, need.saturating_sub(8)]),
         4..=6 => need + 1 + random.below(30),
         _ => need,
+    }
+}
+
+#[cfg(test)]
+mod tests {
+    use super::*;
+
+    #[test]
+    fn no_nan_is_lent() {
+        let any = Random::new(9, 0).bytes(800_000);
+        let least = f64::from_bits(0x7FF0_0000_0000_0001);
+        let nans = [f64::NAN, -f64::NAN, least, -least].map(f64::to_le_bytes).concat();
+        for float in without_nans([any, nans].concat()).chunks(8) {
+            assert!(!f64::from_le_bytes(float.try_into().expect("eight bytes")).is_nan());
+        }
     }
 }

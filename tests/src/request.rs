@@ -1,4 +1,4 @@
-//! What is asked of an implementation of the four calls, and what it replies.
+//! What is asked of an implementation of the public calls, and what it replies.
 
 use std::fmt;
 use std::panic::{catch_unwind, AssertUnwindSafe};
@@ -10,28 +10,75 @@ pub enum Call {
     Point { array: u32, segment: u32, point: u32 },
     Fill { array: u32, segment: u32 },
     Cut { sp: u32, np: u32, fp: u32, sn: u32, order: u32 },
+    // A fill of floats, in Rattle; they go to `answer`.
+    Floats { array: u32, segment: u32 },
+    // A walk until it is done: the values go to `out`, the times to `answer`.
+    Walk { array: u32, segment: u32 },
+    // The step of a walk after the first k.
+    Step { array: u32, segment: u32, k: u32 },
+    UserText,
+    // The label, with a fallback of so many bytes.
+    Label { fallback: usize },
+}
+
+impl Call {
+    /// How many calls there are, by name.
+    pub const NAMES: usize = 9;
+
+    pub fn name(&self) -> &'static str {
+        match self {
+            Call::Open => "open",
+            Call::Point { .. } => "point",
+            Call::Fill { .. } => "fill",
+            Call::Cut { .. } => "cut",
+            Call::Floats { .. } => "fill of floats",
+            Call::Walk { .. } => "walk",
+            Call::Step { .. } => "step",
+            Call::UserText => "user text",
+            Call::Label { .. } => "label",
+        }
+    }
+
+    /// Whether the number returned is 0 or that of a refusal. The other calls return a length.
+    pub fn gives_refusal(&self) -> bool {
+        !matches!(self, Call::Step { .. } | Call::UserText | Call::Label { .. })
+    }
+
+    /// Whether `out` and `answer` are lent as floats.
+    pub fn takes_floats(&self) -> bool {
+        matches!(self, Call::Floats { .. } | Call::Walk { .. } | Call::Step { .. })
+    }
 }
 
 impl fmt::Display for Call {
     fn fmt(&self, f: &mut fmt::Formatter) -> fmt::Result {
+        write!(f, "{}", self.name())?;
         match self {
-            Call::Open => write!(f, "open"),
+            Call::Open | Call::UserText => Ok(()),
             Call::Point { array, segment, point } => {
-                write!(f, "point: array {array}, segment {segment}, point {point}")
+                write!(f, ": array {array}, segment {segment}, point {point}")
             }
-            Call::Fill { array, segment } => write!(f, "fill: array {array}, segment {segment}"),
+            Call::Fill { array, segment }
+            | Call::Floats { array, segment }
+            | Call::Walk { array, segment } => write!(f, ": array {array}, segment {segment}"),
             Call::Cut { sp, np, fp, sn, order } => {
-                write!(f, "cut: SP {sp}, NP {np}, FP {fp}, SN {sn}, order {order}")
+                write!(f, ": SP {sp}, NP {np}, FP {fp}, SN {sn}, order {order}")
             }
+            Call::Step { array, segment, k } => {
+                write!(f, ": array {array}, segment {segment}, after {k}")
+            }
+            Call::Label { fallback } => write!(f, ": fallback of {fallback}"),
         }
     }
 }
 
-/// A call with the slices lent to it, and what they hold before it. `out` is empty but for a cut.
+/// A call with the slices lent to it, and what they hold before it. `fallback` is empty but for a
+/// label, and `out` but for a cut and a walk. Floats are lent as their bytes, the low byte first.
 #[derive(Clone)]
 pub struct Request<'a> {
     pub call: Call,
     pub block: &'a [u8],
+    pub fallback: Vec<u8>,
     pub out: Vec<u8>,
     pub answer: Vec<u8>,
 }
@@ -41,6 +88,7 @@ pub struct Request<'a> {
 pub struct Reply {
     pub number: u32,
     pub block: Vec<u8>,
+    pub fallback: Vec<u8>,
     pub out: Vec<u8>,
     pub answer: Vec<u8>,
     /// The slices, by name, that no longer have their known bytes before them.
@@ -61,7 +109,7 @@ impl Reply {
     }
 }
 
-/// Something that answers the four calls.
+/// Something that answers the calls.
 pub trait Core {
     /// The reply, or in words why there is none.
     fn ask(&mut self, request: &Request) -> Result<Reply, String>;
@@ -75,29 +123,39 @@ pub struct Calls {
     pub fill: fn(&[u8], u32, u32, &mut [u8]) -> u32,
     #[allow(clippy::type_complexity)] // the C call's own parameters
     pub cut: fn(&[u8], u32, u32, u32, u32, u32, &mut [u8], &mut [u8]) -> u32,
+    pub floats: fn(&[u8], u32, u32, &mut [f64]) -> u32,
+    pub steps: fn(&[u8], u32, u32, &mut [f64], &mut [f64]) -> u32,
+    pub step: fn(&[u8], u32, u32, u32, &mut [f64]) -> usize,
+    pub user_text: fn(&[u8], &mut [u8]) -> usize,
+    pub label: fn(&[u8], &[u8], &mut [u8]) -> usize,
 }
 
-/// The calls of a module that has all four.
+/// The calls of a copy of the law.
 #[macro_export]
 macro_rules! calls_of {
     ($module:path) => {{
-        use $module as module;
+        use $module::{calls, tested};
         $crate::request::Calls {
-            open: module::open,
-            point: module::point,
-            fill: module::fill,
-            cut: module::cut,
+            open: calls::open,
+            point: calls::point,
+            fill: calls::fill,
+            cut: calls::cut,
+            floats: tested::floats,
+            steps: tested::steps,
+            step: tested::step,
+            user_text: tested::user_text,
+            label: tested::label,
         }
     }};
 }
 
 /// The independent implementation.
-pub const LAW: Calls = calls_of!(crate::law::calls);
+pub const LAW: Calls = calls_of!(crate::law);
 
 impl Calls {
     pub fn reply(&self, request: &Request) -> Reply {
         let (mut out, mut answer) = (request.out.clone(), request.answer.clone());
-        let block = request.block;
+        let (block, fallback) = (request.block, &request.fallback);
         let number = match request.call {
             Call::Open => (self.open)(block, &mut answer),
             Call::Point { array, segment, point } => {
@@ -107,9 +165,32 @@ impl Calls {
             Call::Cut { sp, np, fp, sn, order } => {
                 (self.cut)(block, sp, np, fp, sn, order, &mut out, &mut answer)
             }
+            Call::Floats { array, segment } => {
+                with_floats(&mut answer, |floats| (self.floats)(block, array, segment, floats))
+            }
+            Call::Walk { array, segment } => with_floats(&mut out, |values| {
+                with_floats(&mut answer, |times| (self.steps)(block, array, segment, values, times))
+            }),
+            Call::Step { array, segment, k } => with_floats(&mut answer, |point| {
+                (self.step)(block, array, segment, k, point) as u32
+            }),
+            Call::UserText => (self.user_text)(block, &mut answer) as u32,
+            Call::Label { .. } => (self.label)(block, fallback, &mut answer) as u32,
         };
-        Reply { number, block: block.to_vec(), out, answer, spoiled: vec![] }
+        let (block, fallback) = (block.to_vec(), fallback.clone());
+        Reply { number, block, fallback, out, answer, spoiled: vec![] }
     }
+}
+
+/// Lends bytes as the floats that they are.
+fn with_floats(bytes: &mut [u8], ask: impl FnOnce(&mut [f64]) -> u32) -> u32 {
+    let float = |bytes: &[u8]| f64::from_le_bytes(bytes.try_into().expect("eight bytes"));
+    let mut floats: Vec<f64> = bytes.chunks(8).map(float).collect();
+    let number = ask(&mut floats);
+    for (place, float) in bytes.chunks_mut(8).zip(floats) {
+        place.copy_from_slice(&float.to_le_bytes());
+    }
+    number
 }
 
 impl Core for Calls {

@@ -11,7 +11,7 @@ use std::time::{Duration, Instant};
 
 use crate::request::{Call, Core, Reply, Request};
 
-const SLICES: [&str; 3] = ["block", "out", "answer"];
+const SLICES: [&str; 4] = ["block", "fallback", "out", "answer"];
 
 /// A call that takes longer is taken for one that never ends.
 const LONGEST_CALL: Duration = Duration::from_secs(120);
@@ -52,12 +52,12 @@ impl Runner {
     pub fn probe(command: &[String]) -> Result<(), String> {
         let mut runner = Runner::start(command)?;
         for (slice, name) in SLICES.iter().enumerate() {
-            let reply = runner.exchange(&probe_numbers(slice, 0), [&[1], &[2], &[3]])?;
+            let reply = runner.exchange(&probe_numbers(slice, 0), [&[1], &[2], &[3], &[4]])?;
             if reply.spoiled != [*name] {
                 return Err(format!("the runner does not see a change before {name}"));
             }
             let mut victim = Runner::start_with(command, Stdio::null())?;
-            match victim.exchange(&probe_numbers(slice, 1), [&[1], &[2], &[3]]) {
+            match victim.exchange(&probe_numbers(slice, 1), [&[1], &[2], &[3], &[4]]) {
                 Err(why) if why.contains("signal") => (),
                 Err(why) => return Err(why),
                 Ok(_) => return Err(format!("the byte behind {name} can be touched")),
@@ -66,14 +66,14 @@ impl Runner {
         Ok(())
     }
 
-    fn exchange(&mut self, numbers: &[u32; 6], slices: [&[u8]; 3]) -> Result<Reply, String> {
+    fn exchange(&mut self, numbers: &[u32; 6], slices: [&[u8]; 4]) -> Result<Reply, String> {
         self.steps.fetch_add(1, Ordering::SeqCst);
         let reply = self.write(numbers, slices).and_then(|()| self.read(slices));
         self.steps.fetch_add(1, Ordering::SeqCst);
         reply.map_err(|error| self.end(error))
     }
 
-    fn write(&mut self, numbers: &[u32; 6], slices: [&[u8]; 3]) -> std::io::Result<()> {
+    fn write(&mut self, numbers: &[u32; 6], slices: [&[u8]; 4]) -> std::io::Result<()> {
         let lengths = slices.map(|slice| slice.len() as u32);
         let head = numbers.iter().chain(&lengths).flat_map(|number| number.to_le_bytes());
         let mut bytes: Vec<u8> = head.collect();
@@ -81,7 +81,7 @@ impl Runner {
         self.input.write_all(&bytes)
     }
 
-    fn read(&mut self, slices: [&[u8]; 3]) -> std::io::Result<Reply> {
+    fn read(&mut self, slices: [&[u8]; 4]) -> std::io::Result<Reply> {
         let mut bytes = vec![0; 8 + slices.iter().map(|slice| slice.len()).sum::<usize>()];
         self.output.read_exact(&mut bytes)?;
         let mut rest = &bytes[..];
@@ -95,10 +95,10 @@ impl Runner {
             u32::from_le_bytes(bytes)
         };
         let (number, lost) = (number(), number());
-        let [block, out, answer] = slices.map(|slice| next(slice.len()));
+        let [block, fallback, out, answer] = slices.map(|slice| next(slice.len()));
         let spoiled = SLICES.into_iter().enumerate().filter(|(bit, _)| lost >> bit & 1 == 1);
         let spoiled = spoiled.map(|(_, name)| name).collect();
-        Ok(Reply { number, block, out, answer, spoiled })
+        Ok(Reply { number, block, fallback, out, answer, spoiled })
     }
 
     /// Why there is no reply: how the runner ended.
@@ -122,8 +122,14 @@ impl Core for Runner {
             Call::Point { array, segment, point } => [2, array, segment, point, 0, 0],
             Call::Fill { array, segment } => [3, array, segment, 0, 0, 0],
             Call::Cut { sp, np, fp, sn, order } => [4, sp, np, fp, sn, order],
+            Call::Floats { array, segment } => [5, array, segment, 0, 0, 0],
+            Call::Walk { array, segment } => [6, array, segment, 0, 0, 0],
+            Call::Step { array, segment, k } => [7, array, segment, k, 0, 0],
+            Call::UserText => [8, 0, 0, 0, 0, 0],
+            Call::Label { .. } => [9, 0, 0, 0, 0, 0],
         };
-        self.exchange(&numbers, [request.block, &request.out, &request.answer])
+        let Request { block, fallback, out, answer, .. } = request;
+        self.exchange(&numbers, [block, fallback, out, answer])
     }
 }
 

@@ -89,6 +89,7 @@ impl Shape {
         draft.set_long(SUBARRAY_COUNT, self.subarrays);
         draft.set_long(SEGMENT_INDEX, self.segment_index(random));
         self.set_places(&mut draft, random);
+        draft.set_text(TRACE_LABEL, &trace_label(random));
         draft.user_text = random.bytes(self.user_text);
         draft.array_1 = samples(random, count as usize * self.width());
         if self.two_arrays {
@@ -182,6 +183,21 @@ impl Shape {
 
 pub fn any_order(random: &mut Random) -> Order {
     random.pick(&[Order::HiFirst, Order::LoFirst])
+}
+
+/// TRACE_LABEL with so many bytes before its first zero byte; behind that stand zeros or old bytes.
+fn trace_label(random: &mut Random) -> Vec<u8> {
+    let any = random.below(17);
+    let length = random.pick(&[0, 0, 1, 15, 16, any]);
+    let mut label = random.bytes(16);
+    label[..length].iter_mut().for_each(|byte| *byte = (*byte).max(1));
+    if length < 16 {
+        label[length] = 0;
+    }
+    if random.once_in(2) {
+        label[length..].fill(0);
+    }
+    label
 }
 
 /// Random samples, or those at both ends of a sample's range.

@@ -1,26 +1,29 @@
 -- A fill by the walk: its number is the walk's, then 13 (`number-refused`, `number-short`, `number-none`); a step hands out the next value (`handed`) until all are out (`stopped`).
 use mathlib.Core.Path.{_≡_, refl, sym, ap, _∙_}
 use mathlib.Core.Bool.{Bool, cond}
-use mathlib.Core.List.{List}
+use mathlib.Core.List.{List, _++_, map}
 use mathlib.Core.Logic.{⊎-elim}
 use Prim.Native.Nat.{ℕ, zero, suc, _≤_, _<_}
 use native.Mathlib.Nat.{eq-or-lt-of-le}
 use native.Mathlib.Omega.{arith}
 use lib.Dec.{leb}
 use lib.Ieee.{Float}
+use lib.ListN.{drop}
 use borrow.Author.Tests.{le-leb, lt-leb}
-use Rattle.rules.specs.Numbers.{Bytes}
+use Rattle.rules.specs.Numbers.{Bytes, upFrom}
 use Rattle.rules.specs.Wave.{points}
 use Rattle.rules.specs.Rules.{rules, opened}
-use Rattle.rules.specs.Points.{value, segmentRules, walkRefusal, fillRefusal}
+use Rattle.rules.specs.Points.{value, time, segmentRules, walkRefusal, fillRefusal}
 use Rattle.rules.specs.Cut.{orElse}
 use Rattle.rules.proofs.Tests.{first-last}
 use Rattle.rules.proofs.Opened.{rules-numbered}
+use Rattle.fills.specs.Fills.{over}
+use Rattle.fills.proofs.Writes.{over-start, length-map-up}
 use Rattle.points.specs.declared.answers.Point as answers
 use Rattle.points.specs.declared.walk.Place.{Place}
 use Rattle.points.specs.declared.walk.Step.{Step}
 use Rattle.points.specs.declared.walk.Step.the-variants.{Point, Done}
-use Rattle.points.specs.Points.{filledBy, filledAs, pointAs}
+use Rattle.points.specs.Points.{filledBy, filledAs}
 use Rattle.points.specs.Walks.{placeOf, stepAt, placeAfter}
 use Rattle.points.proofs.Refusals.{walk-points}
 use Rattle.points.proofs.Bounds.{point-answer}
@@ -34,6 +37,10 @@ filled-number s a n room = go (fillRefusal s a n room)
     go : (m : ℕ) → filledBy m (points (opened s .head)) .refusal ≡ m
     go zero = refl
     go (suc m) = refl
+
+-- where as many are written as there are points, all are
+pub all-written : (f : ℕ → Float) (old out : List Float) (k m : ℕ) → k ≡ m → out ≡ over old 0 (map f (upFrom 0 k)) → out ≡ map f (upFrom 0 m) ++ drop m old
+all-written f old out k m e x = rw e at (x ∙ over-start old (map f (upFrom 0 k)) k (length-map-up f 0 k))
 
 module _ (s : List ℕ) (a n : ℕ) where
   abbrev M : ℕ
@@ -76,27 +83,30 @@ module _ (s : List ℕ) (a n : ℕ) where
   -- ---- a step after the first k
 
   module _ (b : Bytes s) (e : walkRefusal s a n ≡ 0) (k : ℕ) (h : k ≤ M) (p : Place) (ep : p ≡ placeAfter s a n k) (r : Step) (er : r ≡ stepAt s p) where
-    before-end : k < M → r ≡ Point (value (opened s) a n k) (pointAs s a n k .time)
+    before-end : k < M → r ≡ Point (value (opened s) a n k) (time (opened s) n k)
     before-end l =
         er ∙ ap (stepAt s) ep ∙ walk-steps s a n e b k l
-        ∙ ap (λ (v : Float). Point v (pointAs s a n k .time)) (ap (λ (x : answers.Point). x .value) (point-answer s a n k (walk-points s a n e k l)))
+        ∙ ap (λ (x : answers.Point). Point (x .value) (x .time)) (point-answer s a n k (walk-points s a n e k l))
 
     at-end : k ≡ M → r ≡ Done
     at-end q = er ∙ ap (stepAt s) ep ∙ walk-ends s a n e k (omega arith) .0
 
-    -- a point is the next, and its value is the next value
-    pub handed : (v t : Float) → r ≡ Point v t → (k < M) × (v ≡ value (opened s) a n k)
-    handed v t x = ⊎-elim (λ (q : k ≡ M). absurd (differ (at-end q))) (λ (l : k < M). (l, alike (before-end l))) (eq-or-lt-of-le h)
+    -- a point is the next, its value is the next value, and its time the next time
+    pub handed : (v t : Float) → r ≡ Point v t → (k < M) × (v ≡ value (opened s) a n k) × (t ≡ time (opened s) n k)
+    handed v t x = ⊎-elim (λ (q : k ≡ M). absurd (differ (at-end q))) (λ (l : k < M). (l, of-value (before-end l), of-time (before-end l))) (eq-or-lt-of-le h)
       where
         differ : r ≡ Done → ⊥
         differ y = let z : _≡_ {A = ℕ} 0 1 = cc in omega arith
 
-        alike : r ≡ Point (value (opened s) a n k) (pointAs s a n k .time) → v ≡ value (opened s) a n k
-        alike y = cc
+        of-value : r ≡ Point (value (opened s) a n k) (time (opened s) n k) → v ≡ value (opened s) a n k
+        of-value y = cc
+
+        of-time : r ≡ Point (value (opened s) a n k) (time (opened s) n k) → t ≡ time (opened s) n k
+        of-time y = cc
 
     -- and after it is done no value is left
     pub stopped : r ≡ Done → k ≡ M
     stopped x = ⊎-elim (λ (q : k ≡ M). q) (λ (l : k < M). absurd (differ (before-end l))) (eq-or-lt-of-le h)
       where
-        differ : r ≡ Point (value (opened s) a n k) (pointAs s a n k .time) → ⊥
+        differ : r ≡ Point (value (opened s) a n k) (time (opened s) n k) → ⊥
         differ y = let z : _≡_ {A = ℕ} 0 1 = cc in omega arith

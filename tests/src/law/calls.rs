@@ -36,7 +36,7 @@ pub fn cut(
     number(try_cut(block, &Setup { sp, np, fp, sn }, order, out, answer))
 }
 
-fn number(result: Result<(), Refusal>) -> u32 {
+pub fn number(result: Result<(), Refusal>) -> u32 {
     match result {
         Ok(()) => 0,
         Err(refusal) => refusal as u32,
@@ -117,13 +117,13 @@ fn try_cut(
 }
 
 /// 9 CHOICE, for an array
-fn choose_array(opened: &Opened, array: i64) -> Result<(), Refusal> {
+pub fn choose_array(opened: &Opened, array: i64) -> Result<(), Refusal> {
     refuse(array < 1, Refusal::Choice)?;
     refuse(array > opened.arrays.len() as i64, Refusal::Choice)
 }
 
-/// 10 SEGMENT, for a point or fill
-fn choose_segment(opened: &Opened, segment: i64) -> Result<(), Refusal> {
+/// 10 SEGMENT, for a point, fill or walk
+pub fn choose_segment(opened: &Opened, segment: i64) -> Result<(), Refusal> {
     refuse(segment < 1, Refusal::Segment)?;
     refuse(segment > opened.segments, Refusal::Segment)
 }

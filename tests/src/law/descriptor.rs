@@ -10,6 +10,7 @@ pub const TEMPLATE_NAME: usize = 16;
 pub const COMM_TYPE: usize = 32;
 pub const COMM_ORDER: usize = 34;
 pub const LENGTHS: usize = 36;
+pub const TRACE_LABEL: usize = 96;
 pub const WAVE_ARRAY_COUNT: usize = 116;
 pub const FIRST_POINT: usize = 132;
 pub const SPARSING_FACTOR: usize = 136;

@@ -1,4 +1,4 @@
-//! The scope document in plain Rust: what each of the four calls answers, byte for byte.
+//! The scope document in plain Rust: what each public call answers, byte for byte.
 //!
 //! Written from the document alone, and nothing is shared with the proved code. It favours being
 //! read over being quick: lists of kept points and segments, a new block built piece by piece.
@@ -11,3 +11,6 @@ pub mod descriptor;
 pub mod numbers;
 pub mod points;
 pub mod rules;
+pub mod tested;
+pub mod texts;
+pub mod walk;

@@ -4,8 +4,8 @@
 use super::descriptor::*;
 use super::numbers::{read_double, Order};
 
-/// The refusals, with the document's numbers. 14 was never given and is not used; none of the four
-/// calls gives 15 to 19.
+/// The refusals, with the document's numbers. 14 was never given and is not used; no call gives 15
+/// to 19.
 #[derive(Clone, Copy, Debug, PartialEq, Eq)]
 pub enum Refusal {
     Frame = 1,

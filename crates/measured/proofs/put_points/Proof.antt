@@ -12,9 +12,9 @@ use Rattle.rules.specs.Rules.{opened}
 use Rattle.rules.specs.Points.{value}
 use Rattle.rules.proofs.Numbers.{below-index}
 use Rattle.fills.specs.Fills.{over}
-use Rattle.fills.proofs.Writes.{over-none, over-start, map-one, length-map-up}
+use Rattle.fills.proofs.Writes.{over-none, map-one}
 use Rattle.points.specs.Walks.{afterOf, placeAfter}
-use Rattle.measured.proofs.Walked.{points-are, handed, stopped}
+use Rattle.measured.proofs.Walked.{all-written, points-are, handed, stopped}
 use borrow.Author.Needs.{needs}
 use Rattle.measured.proofs.put_points.Statement.{statement}
 use Rattle.measured.proofs.put_points.Tie as tie
@@ -51,7 +51,8 @@ module _ (c : tie.After-value Inv-loop μ-loop) where
       let l = loop .loop in
       let r = c .before .before .step-at in
       let v = c .value .given in
-      handed (a .block .now) (a .array) (a .segment) (bytes (c .before .before .before .before .before)) (start .pre .1 .0) (l .k) (l .inv .0) (l .place) (l .inv .1) (r .result) (r .ensures) (v .0 .0) (v .0 .1 .0) (v .1)
+      let h = handed (a .block .now) (a .array) (a .segment) (bytes (c .before .before .before .before .before)) (start .pre .1 .0) (l .k) (l .inv .0) (l .place) (l .inv .1) (r .result) (r .ensures) (v .0 .0) (v .0 .1 .0) (v .1) in
+      (h .0, h .1)
 
   within : loop .loop .k < length (loop .loop .out)
   within = omega (arith, next .0, room start, loop .loop .inv .2)
@@ -109,7 +110,7 @@ returns c =
     let f : ℕ → Float = value (opened (a .block .now)) (a .array) (a .segment) in
     let q = stopped (a .block .now) (a .array) (a .segment) (bytes (c .before .before .before .before .before)) (x .pre .1 .0) (l .k) (l .inv .0) (l .place) (l .inv .1) (r .result) (r .ensures) (c .enum-told .given .1) in
     let e : l .k ≡ a .first .points = omega (arith, q, points-are (a .block .now) (a .array) (a .segment) (a .first) (x .pre .0) (x .pre .1 .0)) in
-    rw e at (l .inv .3 ∙ over-start (a .out .now) (map f (upFrom 0 (l .k))) (l .k) (length-map-up f 0 (l .k)))
+    all-written f (a .out .now) (l .out) (l .k) (a .first .points) e (l .inv .3)
 
 pub put-points-spec : {M : Type 1} → statement M
 put-points-spec =

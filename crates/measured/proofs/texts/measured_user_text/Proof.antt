@@ -1,0 +1,29 @@
+-- The part that is copied is the user text.
+use mathlib.Core.Path.{ap, _∙_}
+use mathlib.Core.List.{List}
+use Prim.Native.Nat.{ℕ}
+use lib.ListN.{length}
+use Rattle.measured.specs.Tested.{copied}
+use borrow.Author.Needs.{needs}
+use Rattle.measured.proofs.texts.measured_user_text.Statement.{statement}
+use Rattle.measured.proofs.texts.measured_user_text.Tie as tie
+
+user-text-requires : tie.Need-user-text-requires
+user-text-requires c κs = search needs
+
+copy-part-requires : tie.Need-copy-part-requires
+copy-part-requires c κs = search needs
+
+same-length : tie.Need-same-length
+same-length c = search needs
+
+returns : tie.Need-returns
+returns c =
+    let a = c .before .before .before .before .before .before .before .args in
+    let t = c .before .before .before .before .user-text .ensures .0 in
+    let p = c .before .before .copy-part .ensures in
+    (p .0 ∙ ap length t, p .1 ∙ ap (λ (l : List ℕ). copied l (a .out .now)) t)
+
+pub measured-user-text-spec : {M : Type 1} → statement M
+measured-user-text-spec =
+    tie.close (tie.spec user-text-requires copy-part-requires same-length returns)

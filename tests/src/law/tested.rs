@@ -1,0 +1,88 @@
+//! The calls in Rattle that a host in C does not have, as the exported test calls make them: the
+//! fill of floats, a walk with its times, one step of it, and the texts.
+//!
+//! A text or a step answers how long it is. Where that is more than there is room for, the lent
+//! slice holds what it held.
+
+use super::calls::{choose_array, choose_segment, number};
+use super::points::{sample, value};
+use super::rules::{open, refuse, Refusal};
+use super::{texts, walk::Walk};
+
+/// Fills a lent array with all values of a segment.
+pub fn floats(block: &[u8], array: u32, segment: u32, out: &mut [f64]) -> u32 {
+    number(try_floats(block, array, segment, out))
+}
+
+/// All that a walk hands out until it is done: the values to one slice, the times to the other.
+pub fn steps(block: &[u8], array: u32, segment: u32, values: &mut [f64], times: &mut [f64]) -> u32 {
+    number(try_steps(block, array, segment, values, times))
+}
+
+/// What the step after the first k hands out: a value and a time, or nothing.
+pub fn step(block: &[u8], array: u32, segment: u32, k: u32, out: &mut [f64]) -> usize {
+    match Walk::start(block, array, segment) {
+        Ok(walk) => copied(&point_after(walk, k), out),
+        Err(_) => copied(&[], out),
+    }
+}
+
+pub fn user_text(block: &[u8], out: &mut [u8]) -> usize {
+    copied(texts::user_text(block), out)
+}
+
+pub fn label(block: &[u8], fallback: &[u8], out: &mut [u8]) -> usize {
+    copied(texts::label(block, fallback), out)
+}
+
+fn try_floats(block: &[u8], array: u32, segment: u32, out: &mut [f64]) -> Result<(), Refusal> {
+    let opened = open(block)?;
+    let (array, segment) = (i64::from(array), i64::from(segment));
+    choose_array(&opened, array)?;
+    choose_segment(&opened, segment)?;
+    let points = opened.points as usize;
+    refuse(out.len() < points, Refusal::Room)?;
+    for (k, place) in out[..points].iter_mut().enumerate() {
+        *place = value(&opened, sample(&opened, array, segment, k as i64));
+    }
+    Ok(())
+}
+
+fn try_steps(
+    block: &[u8],
+    array: u32,
+    segment: u32,
+    values: &mut [f64],
+    times: &mut [f64],
+) -> Result<(), Refusal> {
+    let mut walk = Walk::start(block, array, segment)?;
+    let points = walk.opened.points as usize;
+    refuse(values.len() < points, Refusal::Room)?;
+    refuse(times.len() < points, Refusal::Room)?;
+    let mut handed_out = 0;
+    while let Some([value, time]) = walk.point() {
+        values[handed_out] = value;
+        times[handed_out] = time;
+        handed_out += 1;
+        walk.step();
+    }
+    Ok(())
+}
+
+/// The point after k steps. The first two behind the end show whether a walk stays done; no later
+/// one is taken.
+fn point_after(mut walk: Walk, k: u32) -> Vec<f64> {
+    let most = walk.opened.points + 2;
+    for _ in 0..most.min(i64::from(k)) {
+        walk.step();
+    }
+    walk.point().map_or(vec![], Vec::from)
+}
+
+/// Copies a part to the start of a slice that has room for it; answers how long the part is.
+fn copied<T: Copy>(part: &[T], out: &mut [T]) -> usize {
+    if part.len() <= out.len() {
+        out[..part.len()].copy_from_slice(part);
+    }
+    part.len()
+}
