@@ -1,17 +1,18 @@
--- What `write_next` is handed, call after call, is the listing from its first byte on (`printed`).
+-- What is handed on is what comes next in the listing (`first-next`, `page-next`), at the end all of it (`all-sent`): the calls of `write_next`, one behind the other, are handed the listing (`printed`).
 use mathlib.Core.Path.{_≡_, refl, sym, ap, ap₂, _∙_}
+use mathlib.Core.Bool.{true}
 use mathlib.Core.List.{List, [], _++_}
 use Prim.Native.Nat.{ℕ, zero, suc, _+_, _*_, _≤_}
 use native.Mathlib.Omega.{arith}
 use lib.ListN.{length, take, drop, length-append, length-drop}
-use lib.Seq.{take-append-seam, drop-append-seam, drop-drop, take-add}
+use lib.Seq.{take-append-seam, drop-append-seam, drop-drop, take-add, take-length}
 use Rattle.rules.specs.Numbers.{Bytes}
 use Rattle.rules.specs.Rules.{opened}
 use Rattle.listing.specs.declared.pages.Spot.{Spot}
 use Rattle.listing.specs.declared.pages.Page.{Page}
 use Rattle.listing.specs.Listing.{listing}
 use Rattle.listing.specs.Pages.{Wrote, front, Stands, linesFrom, restBy, rest, Paged}
-use Rattle.listing.specs.Outputs.{Next}
+use Rattle.listing.specs.Outputs.{Next, Printed}
 use Rattle.listing.proofs.Texts.{taken}
 use Rattle.listing.proofs.Rests.{rest-most}
 
@@ -85,6 +86,11 @@ pub data Written (s : List ℕ) : ℕ → List ℕ → Type 0 where
   none : Written s 0 []
   more : {sent : ℕ} {bs bytes : List ℕ} → Written s sent bs → Next s sent bytes → Written s (sent + length bytes) (bs ++ bytes)
 
-pub printed : {s bs : List ℕ} {sent : ℕ} → Written s sent bs → bs ≡ take sent (listing s)
-printed none = refl
-printed {s} (more {sent} {bs} {bytes} w n) = ap₂ {C = List ℕ} (λ x y. x ++ y) (printed w) n ∙ sym (take-add sent (length bytes) (listing s))
+-- they are the listing's first
+started : {s bs : List ℕ} {sent : ℕ} → Written s sent bs → bs ≡ take sent (listing s)
+started none = refl
+started {s} (more {sent} {bs} {bytes} w n) = ap₂ {C = List ℕ} (λ x y. x ++ y) (started w) n ∙ sym (take-add sent (length bytes) (listing s))
+
+-- and, where `print` answers that all were taken, the listing
+pub printed : {s bs : List ℕ} {sent : ℕ} → Written s sent bs → Printed s sent true → bs ≡ listing s
+printed {s} w p = started w ∙ ap (λ (n : ℕ). take n (listing s)) (p .all refl) ∙ take-length (listing s)

@@ -1,6 +1,7 @@
 -- The first line and each page come next where they are handed on; each page leaves less, and at the end nothing is left.
 use mathlib.Core.Path.{_≡_, sym, subst}
 use mathlib.Core.Bool.{false}
+use mathlib.Core.List.{List}
 use Prim.Native.Nat.{ℕ, _+_, _≤_}
 use native.Mathlib.Omega.{arith}
 use lib.ListN.{length, take}
@@ -21,6 +22,9 @@ Inv-loop block sent₀ out₀ first spot₀ going₀ sent out spot going =
 
 abbrev μ-loop : tie.MeasureT-loop
 μ-loop block sent₀ out₀ first spot₀ going₀ sent out spot going = length (rest block spot)
+
+prefix : (n : ℕ) (l : List ℕ) → n ≤ length l → n ≡ length (take n l)
+prefix n l h = sym (length-take-le n l h)
 
 -- the first line fits
 room : (c : tie.After-put-front Inv-loop μ-loop) → c .put-front .result ≤ length (c .put-front .last .1 .0)
@@ -53,13 +57,13 @@ begin-requires : tie.Need-begin-requires Inv-loop μ-loop
 begin-requires c κs = search needs
 
 slice-reshare-prefix-write-next : tie.Need-slice-reshare-prefix-write-next Inv-loop μ-loop
-slice-reshare-prefix-write-next c = room (c .before .before .before)
+slice-reshare-prefix-write-next c = omega (arith, room (c .before .before .before))
 
 slice-aggregate-write-next : tie.Need-slice-aggregate-write-next Inv-loop μ-loop
-slice-aggregate-write-next c = sym (length-take-le _ _ (room (c .before .before .before .before)))
+slice-aggregate-write-next c = let h = room (c .before .before .before .before) in search (needs, prefix)
 
 write-next-requires : tie.Need-write-next-requires Inv-loop μ-loop
-write-next-requires c κs = let f = first (c .before .before) in (f .0, omega (arith, f .1 .within, f .1 .small))
+write-next-requires c κs = let f = first (c .before .before) in (search (f .0), omega (arith, f .1 .within, f .1 .small))
 
 loop-holds : tie.Need-loop-holds Inv-loop μ-loop
 loop-holds c =
@@ -70,13 +74,13 @@ put-page-requires : tie.Need-put-page-requires Inv-loop μ-loop
 put-page-requires c κs = (c .before .before .before .before .loop .inv .1 .stands, c .before .before .before .before .loop .inv .0)
 
 slice-reshare-prefix-write-next-2 : tie.Need-slice-reshare-prefix-write-next-2 Inv-loop μ-loop
-slice-reshare-prefix-write-next-2 c = c .before .before .put-page .ensures .within
+slice-reshare-prefix-write-next-2 c = omega (arith, c .before .before .put-page .ensures .within)
 
 slice-aggregate-write-next-2 : tie.Need-slice-aggregate-write-next-2 Inv-loop μ-loop
-slice-aggregate-write-next-2 c = sym (length-take-le _ _ (c .before .before .before .put-page .ensures .within))
+slice-aggregate-write-next-2 c = let h = c .before .before .before .put-page .ensures .within in search (needs, prefix)
 
 write-next-requires-2 : tie.Need-write-next-requires-2 Inv-loop μ-loop
-write-next-requires-2 c κs = let p = page (c .before .before .before .before) in (p .0, omega (arith, p .1 .within, p .1 .small))
+write-next-requires-2 c κs = let p = page (c .before .before .before .before) in (search (p .0), omega (arith, p .1 .within, p .1 .small))
 
 loop-less : tie.Need-loop-less Inv-loop μ-loop
 loop-less c =
