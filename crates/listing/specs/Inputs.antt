@@ -18,7 +18,7 @@ pub record Behind (l : List ℕ) (at : ℕ) (l' : List ℕ) (r : Input) : Type 0
   pub counts : r .count ≡ at + moved (r .last)
   pub within : r .count ≤ length l'
 
--- so many bytes are no more than the buffer has; and as many, where the last call still moved some
+-- so many bytes are within the buffer; they fill it where the last call still moved some, so that fewer are there only where it moved none, at the input's end, or failed
 pub record Read (l : List ℕ) (r : Input) : Type 0 where
   pub within : Counts (r .count) l
   pub full : (n : ℕ) → r .last ≡ pos (suc n) → r .count ≡ length l

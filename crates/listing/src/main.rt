@@ -41,6 +41,7 @@ fn main() {
 fn read_input(buffer: &mut [u8]) -> Input
     ensures { λ r. ⌜ Read (now (buffer .exit)) r ⌝ }
 {
+    // no call yet: as if the last one had moved a byte
     let mut input = Input { count: 0, last: 1 };
     while input.last > 0 && input.count < buffer.len() {
         let at = input.count;
@@ -62,7 +63,8 @@ fn read_behind(buffer: &mut [u8], at: usize) -> Input
     }
 }
 
-// Writes the listing of a block to standard output, page by page, and answers whether all of it was taken.
+// Writes the listing of a block to standard output, page by page, and answers whether all of it was taken. `sent` counts
+// the bytes handed on.
 fn print(block: &[u8], sent: &mut usize) -> bool
     requires { ⌜ now sent ≡ 0 ⌝ }
     ensures { λ r. ⌜ Printed (now (block .entry)) (now (sent .exit)) r ⌝ }
@@ -81,8 +83,8 @@ fn print(block: &[u8], sent: &mut usize) -> bool
     going
 }
 
-// Hands the next bytes of a block's listing to standard output, counts them, and answers whether they were taken.
-// Nothing else writes there.
+// Hands the next bytes of a block's listing to standard output, counts them, and answers whether they were taken. Nothing
+// else writes there.
 fn write_next(block: &[u8], bytes: &[u8], sent: &mut usize) -> bool
     requires { ⌜ Next (now block) (now sent) (now bytes) ⌝ }
     requires { ⌜ now sent + length (now bytes) < 2 ^ 64 ⌝ }

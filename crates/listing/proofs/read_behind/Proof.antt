@@ -51,13 +51,14 @@ returns c =
     let at : ℕ = x .args .at in
     let r = c .before .before .before .before .before .read in
     let l' : List ℕ = putMid at (length l - at) l (r .last .1 .0) in
-    let same : length l' ≡ length l = c .before .before .before .before .buffer .given .1 in
+    let same = c .before .before .before .before .buffer .given .1 in
     let part : length (midOf at (length l' - at) l') ≡ length l' - at = mid-len at (length l') l' (omega arith) in
-    let moves : Moved (length l - at) (r .result) = subst (λ (n : ℕ). Moved n (r .result)) (mid-len at (length l) l (omega arith)) (r .ensures) in
     let held : toZ w64 (ofZ w64 (r .result)) ≡ r .result = toZ-ofZ (record { sfits = r .ok }) in
     record {
       keeps = take-put at (length l - at) l (r .last .1 .0) (x .pre);
-      counts = ap (λ (n : ℕ). at + n) (c .count .ensures .1 ∙ counted (toZ w64 (ofZ w64 (r .result))) (length l - at) _ (subst (Moved (length l - at)) (sym held) moves) (omega arith));
+      counts =
+          let moves : Moved (length l - at) (r .result) = subst (λ (n : ℕ). Moved n (r .result)) (mid-len at (length l) l (omega arith)) (r .ensures) in
+          ap (λ (n : ℕ). at + n) (c .count .ensures .1 ∙ counted (toZ w64 (ofZ w64 (r .result))) (length l - at) _ (subst (Moved (length l - at)) (sym held) moves) (omega arith));
       within = omega (arith, x .pre, c .count .ensures .0 .0);
     }
 

@@ -1,13 +1,13 @@
 -- Each call reads behind what is there; the count grows until one moves nothing or the buffer is full.
 use mathlib.Core.Path.{_≡_, refl, sym, _∙_}
 use mathlib.Core.List.{List}
-use Prim.Native.Nat.{ℕ, _+_, _-_, _≤_, _<_}
+use Prim.Native.Nat.{ℕ, _+_, _-_, _≤_}
 use native.Mathlib.Omega.{arith}
 use lib.ListN.{length}
 use lib.Seq.{length-take-le}
 use mir.Syntax.{w64}
 use mir.Val.{SFits}
-use borrow.Author.Tests.{ltb-true, ltb-false}
+use borrow.Author.Tests.{ltb-false}
 use Rattle.io.specs.Counts.{Counts}
 use Rattle.listing.proofs.Inputs.{some, some-moved, goes-on, ended}
 use Rattle.listing.proofs.read_input.Statement.{statement}
@@ -36,7 +36,6 @@ loop-less c =
     let l = c .before .before .before .before .before .before .before .before .before .loop in
     let r = c .before .before .read-behind in
     let more : some (l .input .last) ≡ 1 = goes-on (l .input .last) (fits (c .before .before .before .before .before .before .before)) (c .before .before .before .before .before .before .if1 .taken) in
-    let room : l .input .count < length (l .buffer) = ltb-true _ _ (c .before .before .before .before .if2 .taken) in
     omega (arith, r .ensures .counts, r .ensures .within, r .kept .0, some-moved (r .result .last) .0, some-moved (r .result .last) .1)
 
 loop-again : tie.Need-loop-again Inv-loop μ-loop
