@@ -1,7 +1,7 @@
 -- The segment's next point, or the next segment.
 use mathlib.Core.Path.{_≡_, sym, subst}
 use mathlib.Core.List.{List, _++_}
-use Prim.Native.Nat.{ℕ, _+_}
+use Prim.Native.Nat.{ℕ}
 use native.Mathlib.Omega.{arith}
 use Rattle.rules.specs.Numbers.{Bytes}
 use Rattle.rules.specs.Rules.{opened}
