@@ -70,14 +70,10 @@ checked: host target/host/made
 	@target/tests/release/slips
 	@target/tests/release/compare --cases 40000 --seed 1 -- $(RUN) target/tests/runner
 
-# The listing of the example's payload is the same under every header that holds its length. A sequence with the
-# TRIGGER_TIMEs 100 and 200 is listed, and with 288 and 200 it is refused.
+# The listing program on blocks, on what is refused and on what is too long, against stored texts.
 listed: tools target/host/made
 	@rt check listing >target/listing.log 2>&1 || { cat target/listing.log; exit 1; }
-	@for d in 3 4 5 6 7 8 9; do { printf '#%d%0*d' $$d $$d 348; tail -c +12 crates/listing/stdin; } | $(LISTING) | cmp - crates/listing/stdout; done
-	@$(RUN) target/host/made 1 0 2 1 1 >target/host/two
-	@$(LISTING) <target/host/two | cmp - <(printf '%s\n' '2 1 1 1 0' '1 0 BFFC000000000000 0000000000000000' '2 0 3FFC000000000000 3FF0000000000000')
-	@{ head -c 363 target/host/two; printf '\162'; tail -c +365 target/host/two; } | $(LISTING) | cmp - <(echo 'refused 20')
+	@host/tests/listed/run '$(LISTING)' '$(RUN) target/host/made' crates/listing
 
 target/host/made: host/tests/made.c host/tests/blocks.h | tools
 	@mkdir -p target/host

@@ -1,3 +1,4 @@
 pub mod Texts
 pub mod Rests
 pub mod Printed
+pub mod Inputs

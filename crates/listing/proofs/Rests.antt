@@ -3,7 +3,8 @@ use mathlib.Core.Path.{_≡_, refl, sym, ap, ap₂, _∙_, subst}
 use mathlib.Core.Bool.{Bool, true, false, cond, not}
 use mathlib.Core.Logic.{inl}
 use mathlib.Core.List.{List, [], _∷_, _++_, map, flatten, append-assoc, append-nil}
-use Prim.Native.Nat.{ℕ, zero, suc, _+_, _-_, _≤_, _<_}
+use Prim.Native.Nat.{ℕ, zero, suc, _+_, _-_, _*_, _^_, _≤_, _<_}
+use native.Mathlib.Nat.{mul-assoc, mul-le-mul-left, mul-le-mul-right}
 use native.Mathlib.Numerals.{add-one}
 use native.Mathlib.Omega.{arith}
 use lib.ListN.{length, take, length-append}
@@ -30,6 +31,7 @@ use Rattle.listing.specs.Listing.{decimal, hex, line, firstLine, refused
 use Rattle.listing.specs.Pages.{frontBy, front, spotAt, Stands, linesFrom, restBy, rest, Paged}
 use Rattle.listing.specs.declared.pages.Spot.{Spot}
 use Rattle.listing.specs.declared.pages.Page.{Page}
+use Rattle.listing.proofs.Texts.{length-spelled, places-few}
 
 -- ---- the first line
 
@@ -88,6 +90,31 @@ module _ (w : Wave) (n k : ℕ) where
   lines-end : points (w .head) ≤ k → segments (w .head) ≤ n → linesFrom w n k ≡ []
   unfolding flatten
   lines-end h l = ap (λ (x : List ℕ). x ++ later) (segment-ends h) ∙ ap (λ (ns : List ℕ). flatten (map (λ m. segmentLines w m 0) ns)) (up-none (suc n) n (segments (w .head)) l)
+
+-- ---- how long they are
+
+-- lists of at most c bytes, one behind the other
+each-most : (f : ℕ → List ℕ) (c i m : ℕ) → ((j : ℕ) → j < i + m → length (f j) ≤ c) → length (flatten (map f (upFrom i m))) ≤ m * c
+unfolding flatten upFrom
+each-most f c i zero h = omega arith
+each-most f c i (suc m) h =
+    omega (arith, length-append (f i) (flatten (map f (upFrom (suc i) m))), h i (omega arith), each-most f c (suc i) m (λ j l. h j (omega arith)))
+
+point-most : (w : Wave) (n k : ℕ) → n < 2 ^ 32 → k < 2 ^ 32 → length (pointLine w n k) ≤ 56
+unfolding pointLine
+point-most w n k p q = simp (length-append, length-spelled) (omega (arith, places-few n p, places-few k q))
+
+lines-most : (w : Wave) (n k : ℕ) → 1 ≤ n → n ≤ segments (w .head) → k < points (w .head) → segments (w .head) * points (w .head) < 2147483648 → length (linesFrom w n k) ≤ 56 * 2147483648
+lines-most w n k p q h small =
+    let g : ℕ = segments (w .head) in
+    let M : ℕ = points (w .head) in
+    let gs : g * 1 ≤ g * M = mul-le-mul-left g (omega arith) in
+    let Ms : 1 * M ≤ g * M = mul-le-mul-right M (omega arith) in
+    let this : length (segmentLines w n k) ≤ (M - k) * 56 = each-most (pointLine w n) 56 k (M - k) (λ j l. point-most w n j (omega arith) (omega arith)) in
+    let each : (m : ℕ) → m < suc n + (g - n) → length (segmentLines w m 0) ≤ M * 56 = λ m l. omega (arith, each-most (pointLine w m) 56 0 (M - 0) (λ j i. point-most w m j (omega arith) (omega arith))) in
+    let those : length (later w n k) ≤ (g - n) * (M * 56) = each-most (λ m. segmentLines w m 0) (M * 56) (suc n) (g - n) each in
+    let fit : suc (g - n) * (M * 56) ≤ g * (M * 56) = mul-le-mul-right (M * 56) (omega arith) in
+    omega (arith, length-append (segmentLines w n k) (later w n k), mul-assoc g M 56)
 
 -- a whole number of units is no NaN
 clean : (L : ℕ) (x : Float) → T (whole L x) → T (not (isNan x))
@@ -238,6 +265,19 @@ module _ (s : List ℕ) (b : Bytes s) where
               let e : walkRefusal s 1 (n + 1) ≡ 0 = walked (n + 1) (walk-accepts s 1 n walks) (omega arith) (omega (arith, f refl)) in
               lines-segment (opened s) n (suc k) l (f refl) ∙ ap (λ (m : ℕ). linesFrom (opened s) m 0) (sym (add-one n)) ∙ sym (rest-at (n + 1) e)
           go l false f h = lines-end (opened s) n (suc k) l (h refl) ∙ sym (rest-none (n + 1) (λ e. omega (arith, h refl, asked (n + 1) e .segment)))
+
+  -- what is left at a spot can be counted
+  pub rest-most : (spot : Spot) → Stands s spot → length (rest s spot) ≤ 56 * 2147483648
+  unfolding rest
+  rest-most spot t = go (spot .place .refusal) refl
+    where
+      go : (r : ℕ) → spot .place .refusal ≡ r → length (restBy r (linesFrom (opened s) (spot .segment) (spot .place .k))) ≤ 56 * 2147483648
+      go zero z =
+          let e = walks spot t z in
+          let a = asked (spot .segment) e in
+          let c = good-opened s b (walk-accepts s 1 (spot .segment) e) .counts in
+          lines-most (opened s) (spot .segment) (spot .place .k) (a .from-one) (a .segment) (below spot t z) (omega (arith, c .count-long, shape-opened s b (walk-accepts s 1 (spot .segment) e) .whole))
+      go (suc r) z = omega arith
 
   -- ---- the whole
 

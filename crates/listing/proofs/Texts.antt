@@ -59,6 +59,10 @@ places-most (suc w) n h =
     go true f g q = omega (arith, places-small n (f refl))
     go false f g q = omega (arith, places-step n (g refl))
 
+-- a number of 32 bits has at most ten
+pub places-few : (n : ℕ) → n < 2 ^ 32 → places n ≤ 10
+places-few n h = places-most 9 n (omega arith)
+
 -- ---- text over a buffer
 
 -- a byte stored right behind a text, before the text is written or after it

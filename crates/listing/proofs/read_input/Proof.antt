@@ -1,86 +1,60 @@
--- Each read fills at most what is left of the buffer.
-use mathlib.Core.Path.{_≡_, refl, sym, _∙_, subst}
+-- Each call reads behind what is there; the count grows until one moves nothing or the buffer is full.
+use mathlib.Core.Path.{_≡_, refl, sym, _∙_}
 use mathlib.Core.List.{List}
 use Prim.Native.Nat.{ℕ, _+_, _-_, _≤_}
 use native.Mathlib.Omega.{arith}
 use lib.ListN.{length}
 use lib.Seq.{length-take-le}
-use borrow.Rule.Slice.PartMut.{putMid, mid-len}
+use mir.Syntax.{w64}
+use mir.Val.{SFits}
+use borrow.Author.Tests.{ltb-false}
 use Rattle.io.specs.Counts.{Counts}
-use Rattle.listing.specs.declared.Input.{Input}
-use Rattle.listing.specs.declared.Input.the-variants.{Bytes}
-use Rattle.listing.specs.Inputs.{Within}
-use borrow.Author.Needs.{needs}
+use Rattle.listing.proofs.Inputs.{some, some-moved, goes-on, ended}
 use Rattle.listing.proofs.read_input.Statement.{statement}
 use Rattle.listing.proofs.read_input.Tie as tie
 
 abbrev Inv-loop : tie.InvT-loop
-Inv-loop buffer₀ at₀ buffer at = (at ≤ length buffer) × (length buffer ≡ length buffer₀)
+Inv-loop buffer₀ input₀ buffer input = (input .count ≤ length buffer) × (length buffer ≡ length buffer₀)
 
 abbrev μ-loop : tie.MeasureT-loop
-μ-loop buffer₀ at₀ buffer at = length buffer - at
+μ-loop buffer₀ input₀ buffer input = length buffer - input .count + some (input .last)
 
-counted : (n : ℕ) (l : List ℕ) → n ≤ length l → Counts n l
-counted n l h = (h, sym (length-take-le n l h))
+counts : (n : ℕ) (l : List ℕ) → n ≤ length l → Counts n l
+counts n l h = (h, sym (length-take-le n l h))
 
--- a read keeps the buffer's length, and fits into what is left of it
-kept : (c : tie.After-buffer Inv-loop μ-loop) → length (putMid (c .before .before .before .before .loop .at) (length (c .before .before .before .before .loop .buffer) - c .before .before .before .before .loop .at) (c .before .before .before .before .loop .buffer) (c .before .read-once .last .0)) ≡ length (c .before .before .before .before .loop .buffer)
-kept c = c .buffer .given .1
-
-room : (c : tie.After-more Inv-loop μ-loop) → c .before .before .before .before .before .before .before .loop .at + c .more .given .0 .0 ≤ length (c .before .before .before .before .before .before .before .loop .buffer)
-room c =
-    let l = c .before .before .before .before .before .before .before .loop in
-    let r = c .before .before .before .before .read-once in
-    let w : Within (Bytes (c .more .given .0 .0)) (r .last .0) = subst (λ (i : Input). Within i (r .last .0)) (c .more .given .1) (r .ensures) in
-    omega (arith, w .0, c .before .before .before .buffer .given .0, mid-len (l .at) (length (l .buffer)) (l .buffer) (omega arith), l .inv .0)
+fits : (c : tie.After-struct-told Inv-loop μ-loop) → SFits w64 (c .before .before .loop .input .last)
+fits c = record { sfits = c .struct-told .given .1 .0 .1 }
 
 loop-holds : tie.Need-loop-holds Inv-loop μ-loop
 loop-holds c = (omega arith, refl)
 
-sub-read-once : tie.Need-sub-read-once Inv-loop μ-loop
-sub-read-once c = search needs
-
-part-read-once-start : tie.Need-part-read-once-start Inv-loop μ-loop
-part-read-once-start c = search needs
-
-part-read-once-end : tie.Need-part-read-once-end Inv-loop μ-loop
-part-read-once-end c = search needs
-
-read-once-requires : tie.Need-read-once-requires Inv-loop μ-loop
-read-once-requires c κs = search needs
-
-enum-known-more : tie.Need-enum-known-more Inv-loop μ-loop
-enum-known-more c = search needs
-
-enum-told : tie.Need-enum-told Inv-loop μ-loop
-enum-told c = search needs
-
-same-length : tie.Need-same-length Inv-loop μ-loop
-same-length c = search needs
-
-returns : tie.Need-returns Inv-loop μ-loop
-returns c = tt
-
-same-length-2 : tie.Need-same-length-2 Inv-loop μ-loop
-same-length-2 c = search needs
-
-returns-2 : tie.Need-returns-2 Inv-loop μ-loop
-returns-2 c = counted (c .before .before .before .before .before .before .before .before .before .loop .at) _ (omega (arith, kept (c .before .before .before .before .before), c .before .before .before .before .before .before .before .before .before .loop .inv .0))
-
-add-at : tie.Need-add-at Inv-loop μ-loop
-add-at c = omega (arith, room (c .before .before), c .before .before .before .before .before .before .before .before .before .loop .inv .0)
+read-behind-requires : tie.Need-read-behind-requires Inv-loop μ-loop
+read-behind-requires c κs = c .before .before .before .before .before .before .loop .inv .0
 
 loop-less : tie.Need-loop-less Inv-loop μ-loop
-loop-less c = omega (arith, room (c .before .before), kept (c .before .before .before .before .before), c .before .before .before .before .before .before .before .before .before .loop .inv .0)
+loop-less c =
+    let l = c .before .before .before .before .before .before .before .before .before .loop in
+    let r = c .before .before .read-behind in
+    let more : some (l .input .last) ≡ 1 = goes-on (l .input .last) (fits (c .before .before .before .before .before .before .before)) (c .before .before .before .before .before .before .if1 .taken) in
+    omega (arith, r .ensures .counts, r .ensures .within, r .kept .0, some-moved (r .result .last) .0, some-moved (r .result .last) .1)
 
 loop-again : tie.Need-loop-again Inv-loop μ-loop
-loop-again c = (omega (arith, room (c .before .before), kept (c .before .before .before .before .before), c .before .before .before .before .before .before .before .before .before .loop .inv .0), kept (c .before .before .before .before .before) ∙ c .before .before .before .before .before .before .before .before .before .loop .inv .1)
+loop-again c = let r = c .before .before .read-behind in (r .ensures .within, r .kept .0 ∙ c .before .before .before .before .before .before .before .before .before .loop .inv .1)
 
-same-length-3 : tie.Need-same-length-3 Inv-loop μ-loop
-same-length-3 c = search needs
+same-length : tie.Need-same-length Inv-loop μ-loop
+same-length c = c .before .before .before .before .before .loop .inv .1
 
-returns-3 : tie.Need-returns-3 Inv-loop μ-loop
-returns-3 c = counted (c .before .loop .at) (c .before .loop .buffer) (c .before .loop .inv .0)
+returns : tie.Need-returns Inv-loop μ-loop
+returns c =
+    let l = c .before .before .before .before .before .loop in
+    let full : length (l .buffer) ≤ l .input .count = ltb-false _ _ (c .if2 .left) in
+    record { within = counts _ _ (l .inv .0); full = λ n e. omega (arith, l .inv .0) }
+
+same-length-2 : tie.Need-same-length-2 Inv-loop μ-loop
+same-length-2 c = c .before .before .before .loop .inv .1
+
+returns-2 : tie.Need-returns-2 Inv-loop μ-loop
+returns-2 c = let l = c .before .before .before .loop in record { within = counts _ _ (l .inv .0); full = λ n e. absurd (ended (l .input .last) (fits (c .before)) (c .if1 .left) n e) }
 
 pub read-input-spec : {M : Type 1} → statement M
 read-input-spec =
@@ -89,18 +63,10 @@ read-input-spec =
     Inv-loop
     μ-loop
     loop-holds
-    sub-read-once
-    part-read-once-start
-    part-read-once-end
-    read-once-requires
-    enum-known-more
-    enum-told
+    read-behind-requires
+    loop-less
+    loop-again
     same-length
     returns
     same-length-2
-    returns-2
-    add-at
-    loop-less
-    loop-again
-    same-length-3
-    returns-3)
+    returns-2)

@@ -1,7 +1,7 @@
 -- The segment's next point, or the next segment.
 use mathlib.Core.Path.{_≡_, sym, subst}
 use mathlib.Core.List.{List, _++_}
-use Prim.Native.Nat.{ℕ, _+_}
+use Prim.Native.Nat.{ℕ}
 use native.Mathlib.Omega.{arith}
 use Rattle.rules.specs.Numbers.{Bytes}
 use Rattle.rules.specs.Rules.{opened}
@@ -39,7 +39,7 @@ returns-2 c =
     let spot = x .args .spot in
     let line : List ℕ = pointLine (opened s) (spot .segment) (spot .place .k) in
     subst (λ (r : Spot). Stands s r × (rest s spot ≡ line ++ rest s r)) (sym (c .spot-at .ensures))
-    (stands-at s b (spot .segment + 1), goes-over s b spot (x .pre .0) (x .pre .1) (c .before .before .before .before .after .result) (c .before .before .before .before .after .ensures) (c .before .before .if1 .left))
+    (stands-at s b _, goes-over s b spot (x .pre .0) (x .pre .1) (c .before .before .before .before .after .result) (c .before .before .before .before .after .ensures) (c .before .before .if1 .left))
 
 pub after-line-spec : {M : Type 1} → statement M
 after-line-spec =

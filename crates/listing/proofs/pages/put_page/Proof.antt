@@ -69,7 +69,7 @@ same-length c = c .before .before .before .loop .inv .0
 returns : tie.Need-returns Inv-loop μ-loop
 returns c =
     let l = c .before .before .before .loop in
-    record { stands = l .inv .3; within = l .inv .2; lines = l .inv .4; some = λ z. omega (arith, leb-false (l .at) _ (c .if2 .left)) }
+    record { stands = l .inv .3; within = omega (arith, l .inv .0, l .inv .1, l .inv .2); lines = l .inv .4; some = λ z. omega (arith, leb-false (l .at) _ (c .if2 .left)) }
 
 same-length-2 : tie.Need-same-length-2 Inv-loop μ-loop
 same-length-2 c = c .before .before .loop .inv .0
@@ -77,7 +77,7 @@ same-length-2 c = c .before .before .loop .inv .0
 returns-2 : tie.Need-returns-2 Inv-loop μ-loop
 returns-2 c =
     let l = c .before .before .loop in
-    record { stands = l .inv .3; within = l .inv .2; lines = l .inv .4; some = λ z. started (l .at) (λ q. c .if1 .left (ap (λ (x : Spot). x .place .refusal) (l .inv .5 q) ∙ z)) }
+    record { stands = l .inv .3; within = omega (arith, l .inv .0, l .inv .1, l .inv .2); lines = l .inv .4; some = λ z. started (l .at) (λ q. c .if1 .left (ap (λ (x : Spot). x .place .refusal) (l .inv .5 q) ∙ z)) }
 
 pub put-page-spec : {M : Type 1} → statement M
 put-page-spec =

@@ -1,24 +1,20 @@
 -- As many digits as the number has.
 use mathlib.Core.Path.{ap}
 use mathlib.Core.List.{[], _∷_, _++_}
-use Prim.Native.Nat.{ℕ, _^_, _≤_, _<_}
+use Prim.Native.Nat.{ℕ, _≤_}
 use native.Mathlib.Omega.{arith}
 use Rattle.listing.specs.Listing.{spelled, places}
-use Rattle.listing.proofs.Texts.{places-most, worded}
+use Rattle.listing.proofs.Texts.{places-few, worded}
 use borrow.Author.Needs.{needs}
 use Rattle.listing.proofs.text.put_decimal.Statement.{statement}
 use Rattle.listing.proofs.text.put_decimal.Tie as tie
-
--- a number of 32 bits has at most ten digits
-few : (n : ℕ) → n < 2 ^ 32 → places n ≤ 10
-few n h = places-most 9 n (omega arith)
 
 places-requires : tie.Need-places-requires
 places-requires c κs = search needs
 
 put-word-requires : tie.Need-put-word-requires
 put-word-requires c κs =
-    let p : places (c .before .before .before .args .n) ≤ 10 = few (c .before .before .before .args .n) (omega arith) in
+    let p : places (c .before .before .before .args .n) ≤ 10 = places-few (c .before .before .before .args .n) (omega arith) in
     (search needs, omega (arith, c .before .places .ensures))
 
 same-length : tie.Need-same-length
@@ -28,7 +24,7 @@ returns : tie.Need-returns
 returns c =
     let a = c .before .before .before .before .before .before .args in
     let e = c .before .before .before .before .places .ensures in
-    let p : places (a .n) ≤ 10 = few (a .n) (omega arith) in
+    let p : places (a .n) ≤ 10 = places-few (a .n) (omega arith) in
     (worded (ap (λ (w : ℕ). spelled 10 w (a .n) ++ (a .end ∷ [])) e) (c .before .before .put-word .ensures .0), (omega (arith, c .before .before .put-word .ensures .1), omega (arith, c .before .before .put-word .ensures .1)))
 
 pub put-decimal-spec : {M : Type 1} → statement M
