@@ -82,15 +82,15 @@ all-sent s spot sent b h = go (spot .place .refusal) h (b .left)
     go (suc n) h e = omega (arith, b .within, ap length e, length-drop sent (listing s))
 
 -- the bytes of calls of `write_next`, one behind the other, and how many they are
-pub data Written (s : List ℕ) : ℕ → List ℕ → Type 0 where
-  none : Written s 0 []
-  more : {sent : ℕ} {bs bytes : List ℕ} → Written s sent bs → Next s sent bytes → Written s (sent + length bytes) (bs ++ bytes)
+pub data Handed (s : List ℕ) : ℕ → List ℕ → Type 0 where
+  none : Handed s 0 []
+  more : {sent : ℕ} {bs bytes : List ℕ} → Handed s sent bs → Next s sent bytes → Handed s (sent + length bytes) (bs ++ bytes)
 
 -- they are the listing's first
-started : {s bs : List ℕ} {sent : ℕ} → Written s sent bs → bs ≡ take sent (listing s)
+started : {s bs : List ℕ} {sent : ℕ} → Handed s sent bs → bs ≡ take sent (listing s)
 started none = refl
 started {s} (more {sent} {bs} {bytes} w n) = ap₂ {C = List ℕ} (λ x y. x ++ y) (started w) n ∙ sym (take-add sent (length bytes) (listing s))
 
 -- and, where `print` answers that all were taken, the listing
-pub printed : {s bs : List ℕ} {sent : ℕ} → Written s sent bs → Printed s sent true → bs ≡ listing s
+pub printed : {s bs : List ℕ} {sent : ℕ} → Handed s sent bs → Printed s sent true → bs ≡ listing s
 printed {s} w p = started w ∙ ap (λ (n : ℕ). take n (listing s)) (p .all refl) ∙ take-length (listing s)

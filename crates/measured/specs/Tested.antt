@@ -1,7 +1,7 @@
 -- What the calls for the comparison answer and leave, over the definitions of the calls that they are made of. Definitions only.
 use Prim.Native.Nat.{ℕ, min}
 use mathlib.Core.Bool.{cond}
-use mathlib.Core.List.{List, [], _∷_, _++_, map}
+use mathlib.Core.List.{List, _++_, map}
 use lib.ListN.{length, drop}
 use lib.Dec.{leb}
 use lib.Ieee.{Float}
@@ -9,19 +9,12 @@ use Rattle.rules.specs.Numbers.{upFrom}
 use Rattle.rules.specs.Wave.{points}
 use Rattle.rules.specs.Rules.{opened}
 use Rattle.rules.specs.Points.{value, time, fillRefusal}
-use Rattle.points.specs.declared.walk.Step.{Step}
-use Rattle.points.specs.declared.walk.Step.the-variants.{Point, Done}
 use Rattle.points.specs.Points.{outBy}
 
 -- a slice afterwards: the part at its start and behind it what was there; where the part has no room, all that was there
 module _ {A : Type 0} where
   abbrev pub copied : List A → List A → List A
   copied part out = cond (leb (length part) (length out)) (part ++ drop (length part) out) out
-
--- what a step hands out: a point's value and time, or nothing
-abbrev pub handedOut : Step → List Float
-handedOut (Point value time) = value ∷ time ∷ []
-handedOut Done = []
 
 -- ---- a walk over segment n of array a, to its end: the values to one slice, the times to another
 

@@ -8,8 +8,8 @@ ghost use lib.ListN.{length, drop};
 ghost use Rattle.rules.specs.Numbers.{upFrom};
 ghost use Rattle.rules.specs.Rules.{opened};
 ghost use Rattle.rules.specs.Points.{value, time, walkRefusal};
-ghost use Rattle.points.specs.Walks.{placeOf, stepAt, movedTo};
-ghost use Rattle.measured.specs.Tested.{copied, handedOut, stepsNumber, valuesLeft, timesLeft};
+ghost use Rattle.points.specs.Walks.{placeOf, stepAt, movedTo, valuesOf};
+ghost use Rattle.measured.specs.Tested.{copied, stepsNumber, valuesLeft, timesLeft};
 
 // The value and the time of each point that a walk hands out until it is done, at the start of values and of times.
 #[no_mangle]
@@ -47,8 +47,8 @@ pub extern "C" fn measured_step(
     k: u32,
     out: &mut [f64],
 ) -> usize
-    ensures { λ r. ⌜ r ≡ length (handedOut (stepAt (now (block .entry)) (movedTo k (placeOf (now (block .entry)) array segment)))) ⌝ }
-    ensures { λ _. ⌜ now (out .exit) ≡ copied (handedOut (stepAt (now (block .entry)) (movedTo k (placeOf (now (block .entry)) array segment)))) (now (out .entry)) ⌝ }
+    ensures { λ r. ⌜ r ≡ length (valuesOf (stepAt (now (block .entry)) (movedTo k (placeOf (now (block .entry)) array segment)))) ⌝ }
+    ensures { λ _. ⌜ now (out .exit) ≡ copied (valuesOf (stepAt (now (block .entry)) (movedTo k (placeOf (now (block .entry)) array segment)))) (now (out .entry)) ⌝ }
 {
     match points::walked(block, array, segment, k) {
         Step::Point { value, time } => {

@@ -3,7 +3,7 @@
 use mathlib.Core.Path.{_≡_, refl, sym, ap, ap₂, _∙_}
 use mathlib.Core.Bool.{Bool, true, false}
 use mathlib.Core.List.{List, [], _∷_, map}
-use Prim.Native.Nat.{ℕ, zero, suc, _+_, _≤_, _<_}
+use Prim.Native.Nat.{ℕ, zero, suc, _+_, _<_}
 use native.Mathlib.Omega.{arith}
 use lib.ListN.{length}
 use lib.Dec.{ltb}
@@ -19,7 +19,7 @@ use Rattle.points.specs.declared.walk.Place.{Place}
 use Rattle.points.specs.declared.walk.Walk.{Walk}
 use Rattle.points.specs.declared.walk.Step.{Step}
 use Rattle.points.specs.declared.walk.Step.the-variants.{Point, Done}
-use Rattle.points.specs.Walks.{placeOf, stepAt, afterOf, placeAfter, answerOf, walkBy, walkAnswer, Started, Stepped}
+use Rattle.points.specs.Walks.{placeOf, stepAt, afterOf, placeAfter, valuesOf, answerOf, walkBy, walkAnswer, Started, Stepped}
 use Rattle.points.proofs.Refusals.{walk-points}
 use Rattle.points.proofs.Bounds.{point-answer}
 use Rattle.points.proofs.Walking.{place-number, walk-steps, walk-ends, walk-refused}
@@ -32,12 +32,8 @@ module _ (s : List ℕ) (b : Bytes s) (a n : ℕ) where
   unfolding walkAnswer
   walk-answers k = go (walkRefusal s a n) refl (ltb k (points (opened s .head))) refl
     where
-      numbered : (m : ℕ) → walkRefusal s a n ≡ m → (r : Step) → stepAt s (placeAfter s a n k) ≡ r → answerOf (placeOf s a n) (stepAt s (placeAfter s a n k)) ≡ (m, answerOf (placeOf s a n) r .1)
-      numbered m e r q = ap (answerOf (placeOf s a n)) q ∙ first r ∙ ap (λ (x : ℕ). (x, answerOf (placeOf s a n) r .1)) (place-number s a n ∙ e)
-        where
-          first : (r : Step) → answerOf (placeOf s a n) r ≡ (placeOf s a n .refusal, answerOf (placeOf s a n) r .1)
-          first (Point x y) = refl
-          first Done = refl
+      numbered : (m : ℕ) → walkRefusal s a n ≡ m → (r : Step) → stepAt s (placeAfter s a n k) ≡ r → answerOf (placeOf s a n) (stepAt s (placeAfter s a n k)) ≡ (m, valuesOf r)
+      numbered m e r q = ap₂ {C = ℕ × List Float} (λ x y. (x, valuesOf y)) (place-number s a n ∙ e) q
 
       go : (m : ℕ) → walkRefusal s a n ≡ m → (more : Bool) → ltb k (points (opened s .head)) ≡ more
           → answerOf (placeOf s a n) (stepAt s (placeAfter s a n k)) ≡ walkBy (walkRefusal s a n) (ltb k (points (opened s .head))) (value (opened s) a n k) (time (opened s) n k)

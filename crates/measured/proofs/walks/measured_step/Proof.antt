@@ -7,7 +7,8 @@ use lib.Ieee.{Float}
 use lib.ListN.{length}
 use lib.Seq.{sets-eq}
 use Rattle.points.specs.declared.walk.Step.{Step}
-use Rattle.measured.specs.Tested.{copied, handedOut}
+use Rattle.points.specs.Walks.{valuesOf}
+use Rattle.measured.specs.Tested.{copied}
 use Rattle.measured.proofs.Tested.{copied-fits, copied-short}
 use borrow.Author.Needs.{needs}
 use Rattle.measured.proofs.walks.measured_step.Statement.{statement}
@@ -24,7 +25,7 @@ returns c =
     let out : List Float = c .before .before .before .before .before .before .before .args .out .now in
     let v = c .before .before .value .given in
     let e = sym (v .1) ∙ c .before .before .before .before .walked .ensures in
-    (ap (λ (r : Step). length (handedOut r)) e, copied-short (v .0 .0 ∷ v .0 .1 .0 ∷ []) out (c .if1 .taken) ∙ ap (λ (r : Step). copied (handedOut r) out) e)
+    (ap (λ (r : Step). length (valuesOf r)) e, copied-short (v .0 .0 ∷ v .0 .1 .0 ∷ []) out (c .if1 .taken) ∙ ap (λ (r : Step). copied (valuesOf r) out) e)
 
 slice-write-out : tie.Need-slice-write-out
 slice-write-out c = search needs
@@ -45,15 +46,15 @@ returns-2 c =
     let e = sym (v .1) ∙ c .before .before .before .before .walked .ensures in
     let two : List Float = v .0 .0 ∷ v .0 .1 .0 ∷ [] in
     let fits : 2 ≤ length out = c .if1 .left in (
-      ap (λ (r : Step). length (handedOut r)) e,
-      sets-eq two out 0 fits ∙ copied-fits two out fits ∙ ap (λ (r : Step). copied (handedOut r) out) e,
+      ap (λ (r : Step). length (valuesOf r)) e,
+      sets-eq two out 0 fits ∙ copied-fits two out fits ∙ ap (λ (r : Step). copied (valuesOf r) out) e,
     )
 
 returns-3 : tie.Need-returns-3
 returns-3 c =
     let out : List Float = c .before .before .before .before .before .args .out .now in
     let e = sym (c .enum-told .given .1) ∙ c .before .before .walked .ensures in
-    (ap (λ (r : Step). length (handedOut r)) e, copied-fits [] out (omega arith) ∙ ap (λ (r : Step). copied (handedOut r) out) e)
+    (ap (λ (r : Step). length (valuesOf r)) e, copied-fits [] out (omega arith) ∙ ap (λ (r : Step). copied (valuesOf r) out) e)
 
 pub measured-step-spec : {M : Type 1} → statement M
 measured-step-spec =
