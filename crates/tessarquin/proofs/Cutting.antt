@@ -28,7 +28,8 @@ module _ (s : List ℕ) (c : Setup) (q : ℕ) where
   abbrev before : ℕ
   before = orElse (refusal s) (first (cutRules q c (opened s .head)))
 
-  answer-length : length (cutAnswer s c q) ≡ 16
+  -- c and the length take sixteen bytes
+  pub answer-length : length (cutAnswer s c q) ≡ 16
   answer-length = pair-length (count c (points (opened s .head))) (length (cutBytes q c s))
 
   module _ (out answer : List ℕ) where

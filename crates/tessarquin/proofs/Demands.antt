@@ -15,9 +15,10 @@ use Rattle.rules.specs.Rules.{first, refusal, opened}
 use Rattle.rules.specs.Points.{value, time, pointRefusal}
 use Rattle.rules.specs.Cut.{Setup, step, orElse, count, cutBytes, cutRules, cutRefusal, combined}
 use Rattle.rules.proofs.Tests.{orElse-none}
-use Rattle.rules.proofs.Demands.{CutTaken, KeptPoint, Small, oneSetup, OneCut, cut-says, room-enough, numbers-fit, cut-bytes, demand-3}
+use Rattle.rules.proofs.Demands.{CutTaken, KeptPoint, Small, OneCut, cut-says, room-enough, numbers-fit, cut-bytes, demand-3}
 use Rattle.tessarquin.specs.Calls.{leftBy, pointBytes, pointNumber, pointLeft, cutAnswer, cutNumber, cutLeft, cutAnswerLeft}
 use Rattle.tessarquin.proofs.Slices.{pair-length, front, pair-read, number-enough, own-answered}
+use Rattle.tessarquin.proofs.Cutting.{answer-length}
 use Rattle.tessarquin.proofs.Learnt.{PointCall, CutCall}
 
 -- ---- what a call returned and left
@@ -29,9 +30,6 @@ countIn answer = number 0 (take 8 answer)
 abbrev pub lengthIn : List ℕ → ℕ
 lengthIn answer = number 0 (take 8 (drop 8 answer))
 
-answer-length : (s : List ℕ) (c : Setup) (q : ℕ) → length (cutAnswer s c q) ≡ 16
-answer-length s c q = pair-length (count c (points (opened s .head))) (length (cutBytes q c s))
-
 module _ (s : List ℕ) (c : Setup) (q : ℕ) (out answer : List ℕ) (m : ℕ) (left second : List ℕ) (call : CutCall s c q out answer m left second) where
   -- with room for c and the length, the number is the cut's own
   own : 16 ≤ length answer → m ≡ cutRefusal q c s (length out)
@@ -42,7 +40,7 @@ module _ (s : List ℕ) (c : Setup) (q : ℕ) (out answer : List ℕ) (m : ℕ) 
   never-13 bytes h k = let r = room-enough s bytes q c (length out) h in (own k ∙ r .0, λ z. r .1 (sym (own k) ∙ z))
 
 -- a call that returned 0: 1 to 13 are kept, c and the length stand in the answer, and the block in the output
-record Answer (s : List ℕ) (c : Setup) (q : ℕ) (out answer left second : List ℕ) : Type 0 where
+record Done (s : List ℕ) (c : Setup) (q : ℕ) (out answer left second : List ℕ) : Type 0 where
   taken : cutRefusal q c s (length out) ≡ 0
   filled : left ≡ splice out 0 (cutBytes q c s)
   told : second ≡ splice answer 0 (cutAnswer s c q)
@@ -50,9 +48,9 @@ record Answer (s : List ℕ) (c : Setup) (q : ℕ) (out answer left second : Lis
   long : lengthIn second ≡ length (cutBytes q c s)
   wrote : take (lengthIn second) left ≡ cutBytes q c s
 
-answered : (s : List ℕ) → Bytes s → (c : Setup) (q : ℕ) (out answer : List ℕ) (m : ℕ) (left second : List ℕ) → CutCall s c q out answer m left second → m ≡ 0 → Answer s c q out answer left second
+done : (s : List ℕ) → Bytes s → (c : Setup) (q : ℕ) (out answer : List ℕ) (m : ℕ) (left second : List ℕ) → CutCall s c q out answer m left second → m ≡ 0 → Done s c q out answer left second
 unfolding cutNumber cutLeft cutAnswerLeft
-answered s bytes c q out answer m left second call z =
+done s bytes c q out answer m left second call z =
     let e : cutNumber s c q (length out) (length answer) ≡ 0 = sym (call .4 .0) ∙ z in
     let taken : cutRefusal q c s (length out) ≡ 0 = orElse-none (cutRefusal q c s (length out)) (cond (leb (length (cutAnswer s c q)) (length answer)) 0 13) e .0 in
     let t : CutTaken s q c (length out) = cut-says s q c (length out) taken in
@@ -105,56 +103,49 @@ module _
     (first-call : CutCall s a p out₁ answer₁ m₁ l₁ r₁) (z₁ : m₁ ≡ 0)
     (second-call : CutCall (take (lengthIn r₁) l₁) b q out₂ answer₂ m₂ l₂ r₂) (z₂ : m₂ ≡ 0)
   where
-    before : Answer s a p out₁ answer₁ l₁ r₁
-    before = answered s bytes a p out₁ answer₁ m₁ l₁ r₁ first-call z₁
+    before : Done s a p out₁ answer₁ l₁ r₁
+    before = done s bytes a p out₁ answer₁ m₁ l₁ r₁ first-call z₁
 
     -- the second call, as one of the block that the first wrote
-    then : Answer (cutBytes p a s) b q out₂ answer₂ l₂ r₂
+    then : Done (cutBytes p a s) b q out₂ answer₂ l₂ r₂
     then =
         let t = cut-says s p a (length out₁) (before .taken) in
-        answered (cutBytes p a s) (cut-bytes s bytes (t .block) p a (t .allows)) b q out₂ answer₂ m₂ l₂ r₂
+        done (cutBytes p a s) (cut-bytes s bytes (t .block) p a (t .allows)) b q out₂ answer₂ m₂ l₂ r₂
         (subst (λ (x : List ℕ). CutCall x b q out₂ answer₂ m₂ l₂ r₂) (before .wrote) second-call) z₂
 
-    law : OneCut s p q a b
-    law = demand-3 s bytes p q a b (length out₁) (length out₂) (before .taken) (then .taken)
-
-    setup-is : combined a b (countIn r₂) ≡ oneSetup p a b s
-    setup-is = ap (combined a b) (then .counted)
+    law : OneCut s p q a b (countIn r₂)
+    law = demand-3 s bytes p q a b (length out₁) (length out₂) (before .taken) (then .taken) (countIn r₂) (then .counted)
 
     -- the numbers of the one setup fit 32 bits
     pub combined-fits : Small (combined a b (countIn r₂))
-    combined-fits = subst Small (sym setup-is) (law .small)
+    combined-fits = law .small
 
     module _
         (out₃ answer₃ : List ℕ) (m₃ : ℕ) (l₃ r₃ : List ℕ) (one-call : CutCall s (combined a b (countIn r₂)) q out₃ answer₃ m₃ l₃ r₃)
         (room : lengthIn r₂ ≤ length out₃) (enough : 16 ≤ length answer₃)
       where
-        one : CutCall s (oneSetup p a b s) q out₃ answer₃ m₃ l₃ r₃
-        one = subst (λ (c : Setup). CutCall s c q out₃ answer₃ m₃ l₃ r₃) setup-is one-call
-
         accepted : m₃ ≡ 0
-        accepted = own s (oneSetup p a b s) q out₃ answer₃ m₃ l₃ r₃ one enough ∙ law .taken (length out₃) (omega (arith, then .long))
+        accepted = own s (combined a b (countIn r₂)) q out₃ answer₃ m₃ l₃ r₃ one-call enough ∙ law .taken (length out₃) (omega (arith, then .long))
 
-        last : Answer s (oneSetup p a b s) q out₃ answer₃ l₃ r₃
-        last = answered s bytes (oneSetup p a b s) q out₃ answer₃ m₃ l₃ r₃ one accepted
+        last : Done s (combined a b (countIn r₂)) q out₃ answer₃ l₃ r₃
+        last = done s bytes (combined a b (countIn r₂)) q out₃ answer₃ m₃ l₃ r₃ one-call accepted
 
         -- c and the length, as bytes
-        told-same : cutAnswer s (oneSetup p a b s) q ≡ cutAnswer (cutBytes p a s) b q
-        told-same = λ i. allBytes 0 8 (law .same-count i ∷ length (law .same-bytes i) ∷ [])
+        told-same : cutAnswer s (combined a b (countIn r₂)) q ≡ cutAnswer (cutBytes p a s) b q
+        told-same = λ i. allBytes 0 8 ((law .same-count ∙ then .counted) i ∷ length (law .same-bytes i) ∷ [])
 
         block-there : take (lengthIn r₂) l₃ ≡ cutBytes q b (cutBytes p a s)
         block-there = ap (λ (n : ℕ). take n l₃) (then .long ∙ ap length (sym (law .same-bytes)) ∙ sym (last .long)) ∙ last .wrote ∙ law .same-bytes
 
         points-kept : (x g k : ℕ) → pointRefusal (take (lengthIn r₂) l₃) x g k ≡ 0 → KeptPoint s (take (lengthIn r₂) l₃) (combined a b (countIn r₂)) x g k
         points-kept =
-            subst (λ (t : List ℕ). (x g k : ℕ) → pointRefusal t x g k ≡ 0 → KeptPoint s t (combined a b (countIn r₂)) x g k) (sym block-there)
-            (subst (λ (c : Setup). (x g k : ℕ) → pointRefusal (cutBytes q b (cutBytes p a s)) x g k ≡ 0 → KeptPoint s (cutBytes q b (cutBytes p a s)) c x g k) (sym setup-is) (law .same-points))
+            subst (λ (t : List ℕ). (x g k : ℕ) → pointRefusal t x g k ≡ 0 → KeptPoint s t (combined a b (countIn r₂)) x g k) (sym block-there) (law .same-points)
 
         pub cut-of-cut : OneCall s (combined a b (countIn r₂)) out₂ out₃ answer₂ answer₃ m₃ l₂ l₃ r₂ r₃
         cut-of-cut = record {
           returns = accepted;
           same-numbers =
-              ap (take 16) (last .told) ∙ front (cutAnswer s (oneSetup p a b s) q) answer₃ 16 (answer-length s (oneSetup p a b s) q)
+              ap (take 16) (last .told) ∙ front (cutAnswer s (combined a b (countIn r₂)) q) answer₃ 16 (answer-length s (combined a b (countIn r₂)) q)
               ∙ told-same
               ∙ sym (ap (take 16) (then .told) ∙ front (cutAnswer (cutBytes p a s) b q) answer₂ 16 (answer-length (cutBytes p a s) b q));
           same-block = block-there ∙ sym (then .wrote);
