@@ -1,7 +1,7 @@
 -- What the contract of `tessarquin_cut` says of calls: lent six bytes more than the block has, and sixteen for c and the length, it is never refused by 13
 -- (`never-13`); and demand 3, the numbers of the combined setup fit 32 bits (`combined-fits`) and a call for the cut of a cut is the one combined call
 -- (`cut-of-cut`).
-use mathlib.Core.Path.{_≡_, sym, ap, _∙_, subst}
+use mathlib.Core.Path.{_≡_, refl, sym, ap, _∙_, subst}
 use mathlib.Core.Bool.{cond}
 use mathlib.Core.List.{List, [], _∷_}
 use Prim.Native.Nat.{ℕ, _+_, _*_, _≤_}
@@ -36,6 +36,7 @@ module _ (s : List ℕ) (c : Setup) (q : ℕ) (out answer : List ℕ) (m : ℕ) 
   unfolding cutNumber
   own h = call .4 .0 ∙ number-enough (cutRefusal q c s (length out)) (cutAnswer s c q) (length answer) (omega (arith, answer-length s c q))
 
+  -- lent six bytes more than the block has, and sixteen for c and the length, a cut is never refused by 13: its number is that of the rules before it
   pub never-13 : Bytes s → length s + 6 ≤ length out → 16 ≤ length answer → (m ≡ orElse (refusal s) (first (cutRules q c (opened s .head)))) × (m ≡ 13 → ⊥)
   never-13 bytes h k = let r = room-enough s bytes q c (length out) h in (own k ∙ r .0, λ z. r .1 (sym (own k) ∙ z))
 
@@ -65,7 +66,7 @@ done s bytes c q out answer m left second call z =
       told = told;
       counted = ap countIn told ∙ read .0;
       long = long;
-      wrote = (λ i. take (long i) (filled i)) ∙ front (cutBytes q c s) out (length (cutBytes q c s)) (λ i. length (cutBytes q c s));
+      wrote = (λ i. take (long i) (filled i)) ∙ front (cutBytes q c s) out (length (cutBytes q c s)) refl;
     }
 
 -- ---- demand 3
