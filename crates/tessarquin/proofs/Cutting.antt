@@ -1,22 +1,21 @@
--- A cut's number with room for any cut of the block (`never-13`) and without room (`without-room`), and what a cut with two slices returns and leaves:
--- refused (`cut-refused`) or answered (`cut-answered`).
+-- A cut's number without room (`without-room`), and what a cut with two slices returns and leaves: refused (`cut-refused`) or answered (`cut-answered`).
 use mathlib.Core.Path.{_≡_, refl, sym, ap, _∙_}
 use mathlib.Core.Bool.{Bool, true, false, cond}
 use mathlib.Core.List.{List, [], _∷_}
-use Prim.Native.Nat.{ℕ, zero, suc, _+_, _≤_, _<_}
+use Prim.Native.Nat.{ℕ, zero, suc, _≤_, _<_}
 use native.Mathlib.Omega.{arith}
 use lib.Dec.{leb}
 use lib.ListN.{length}
-use borrow.Author.Tests.{lt-leb, le-leb}
-use Rattle.rules.specs.Numbers.{Bytes, allBytes, splice}
+use borrow.Author.Tests.{lt-leb}
+use Rattle.rules.specs.Numbers.{allBytes, splice}
 use Rattle.rules.specs.Wave.{encode, points}
 use Rattle.rules.specs.Rules.{first, refusal, opened}
 use Rattle.rules.specs.Cut.{Setup, orElse, count, cut, cutBytes, cutRules, cutRefusal}
 use Rattle.rules.proofs.Frames.{length-framed}
-use Rattle.rules.proofs.Demands.{cut-number, room-enough}
+use Rattle.rules.proofs.Demands.{cut-number}
 use Rattle.cuts.specs.declared.Written.{Written}
 use Rattle.cuts.proofs.Calls as calls
-use Rattle.tessarquin.specs.Calls.{orRoom, cutAnswer, cutNumber, cutLeft, cutAnswerLeft}
+use Rattle.tessarquin.specs.Calls.{cutAnswer, cutNumber, cutLeft, cutAnswerLeft}
 use Rattle.tessarquin.proofs.Slices.{pair-length, number-own, number-none, left-as-it-was, left-written}
 
 module _ (s : List ℕ) (c : Setup) (q : ℕ) where
@@ -29,20 +28,9 @@ module _ (s : List ℕ) (c : Setup) (q : ℕ) where
   abbrev before : ℕ
   before = orElse (refusal s) (first (cutRules q c (opened s .head)))
 
-  answer-length : length (cutAnswer s c q) ≡ 16
+  -- c and the length take sixteen bytes
+  pub answer-length : length (cutAnswer s c q) ≡ 16
   answer-length = pair-length (count c (points (opened s .head))) (length (cutBytes q c s))
-
-  -- lent six bytes more than the block has, and sixteen for the answer, a cut is never refused by 13
-  pub never-13 : Bytes s → (room second : ℕ) → length s + 6 ≤ room → 16 ≤ second → cutNumber s c q room second ≡ orElse (refusal s) (first (cutRules q c (opened s .head)))
-  unfolding cutNumber
-  never-13 b room second h k =
-      ap (λ (n : ℕ). orRoom n (cutAnswer s c q) second) (room-enough s b q c room h)
-      ∙ ap (λ (t : Bool). orElse before (cond t 0 13)) (le-leb (length (cutAnswer s c q)) second (omega (arith, answer-length)))
-      ∙ alone before
-    where
-      alone : (n : ℕ) → orElse n 0 ≡ n
-      alone zero = refl
-      alone (suc n) = refl
 
   module _ (out answer : List ℕ) where
     abbrev pub Answered : ℕ → List ℕ → List ℕ → Type 0

@@ -1,16 +1,20 @@
--- What a call returns and leaves in a slice: refused before 13 (`own-refused`), without room (`own-short`), or answered (`own-left`).
+-- What a call returns and leaves in a slice: refused before 13 (`own-refused`), without room (`own-short`), or answered (`own-left`, and back
+-- `own-answered`).
 use mathlib.Core.Path.{_≡_, refl, sym, ap, _∙_}
 use mathlib.Core.Bool.{Bool, cond}
-use mathlib.Core.List.{List, [], _∷_}
-use Prim.Native.Nat.{ℕ, zero, suc, _≤_, _<_}
+use mathlib.Core.List.{List, [], _∷_, _++_, flatten, append-nil, append-assoc}
+use Prim.Native.Nat.{ℕ, zero, suc, _+_, _≤_, _<_}
 use native.Mathlib.Omega.{arith}
 use lib.Dec.{leb}
-use lib.ListN.{length}
+use lib.ListN.{length, take, drop}
+use lib.Seq.{take-at, drop-at}
 use borrow.Author.Tests.{le-leb, lt-leb}
-use Rattle.rules.specs.Numbers.{allBytes, splice}
+use Rattle.rules.specs.Numbers.{number, bytes, allBytes, splice}
 use Rattle.rules.specs.Wave.{orderOf, segments, points}
 use Rattle.rules.specs.Rules.{opened}
-use Rattle.rules.proofs.Numbers.{length-allBytes}
+use Rattle.rules.specs.Cut.{orElse}
+use Rattle.rules.proofs.Numbers.{number-bytes, length-bytes, length-allBytes}
+use Rattle.rules.proofs.Tests.{orElse-none}
 use Rattle.block.specs.Opened.{arraysOf}
 use Rattle.tessarquin.specs.Calls.{orRoom, leftBy, openBytes}
 
@@ -22,6 +26,24 @@ open-length s = let h : ℕ → ℕ = opened s .head in length-allBytes 0 8 (seg
 pub pair-length : (x y : ℕ) → length (allBytes 0 8 (x ∷ y ∷ [])) ≡ 16
 pair-length x y = length-allBytes 0 8 (x ∷ y ∷ [])
 
+-- ---- what stands at the start of a slice that was written
+
+pub front : (bs slice : List ℕ) (n : ℕ) → length bs ≡ n → take n (splice slice 0 bs) ≡ bs
+front bs slice n e = take-at bs (drop (0 + length bs) slice) n e
+
+-- two numbers of eight bytes, read back
+pub pair-read : (x y : ℕ) (slice : List ℕ) → x < 4294967296 → y < 4294967296
+    → let l = splice slice 0 (allBytes 0 8 (x ∷ y ∷ [])) in (number 0 (take 8 l) ≡ x) × (number 0 (take 8 (drop 8 l)) ≡ y)
+unfolding flatten
+pair-read x y slice h k =
+    let rest : List ℕ = drop (0 + length (allBytes 0 8 (x ∷ y ∷ []))) slice in
+    let apart : splice slice 0 (allBytes 0 8 (x ∷ y ∷ [])) ≡ bytes 0 8 x ++ (bytes 0 8 y ++ rest) =
+    append-assoc (bytes 0 8 x) (bytes 0 8 y ++ []) rest ∙ ap (λ (u : List ℕ). bytes 0 8 x ++ (u ++ rest)) (append-nil (bytes 0 8 y)) in (
+      ap (λ (u : List ℕ). number 0 (take 8 u)) apart ∙ ap (number 0) (take-at (bytes 0 8 x) (bytes 0 8 y ++ rest) 8 (length-bytes 0 8 x)) ∙ number-bytes 0 8 x (omega arith),
+      ap (λ (u : List ℕ). number 0 (take 8 (drop 8 u))) apart ∙ ap (λ (u : List ℕ). number 0 (take 8 u)) (drop-at (bytes 0 8 x) (bytes 0 8 y ++ rest) 8 (length-bytes 0 8 x))
+          ∙ ap (number 0) (take-at (bytes 0 8 y) rest 8 (length-bytes 0 8 y)) ∙ number-bytes 0 8 y (omega arith),
+    )
+
 -- ---- the number n of the rules before 13, and the bytes that are to go where there is room
 
 module _ (n : ℕ) (bs : List ℕ) (room : ℕ) where
@@ -32,15 +54,20 @@ module _ (n : ℕ) (bs : List ℕ) (room : ℕ) where
       go zero h = absurd (h refl)
       go (suc m) h = refl
 
-  module _ (z : n ≡ 0) where
-    number-last : (t : Bool) → leb (length bs) room ≡ t → cond t 0 13 ≡ orRoom n bs room
-    number-last t e = ap (λ (u : Bool). cond u 0 13) (sym e) ∙ ap (λ (k : ℕ). orRoom k bs room) (sym z)
+  -- with room it is n
+  pub number-enough : length bs ≤ room → orRoom n bs room ≡ n
+  number-enough h = ap (λ (t : Bool). orElse n (cond t 0 13)) (le-leb (length bs) room h) ∙ alone n
+    where
+      alone : (n : ℕ) → orElse n 0 ≡ n
+      alone zero = refl
+      alone (suc n) = refl
 
+  module _ (z : n ≡ 0) where
     pub number-short : room < length bs → 13 ≡ orRoom n bs room
-    number-short h = number-last _ (lt-leb (length bs) room h)
+    number-short h = ap (λ (t : Bool). cond t 0 13) (sym (lt-leb (length bs) room h)) ∙ ap (λ (k : ℕ). orRoom k bs room) (sym z)
 
     pub number-none : length bs ≤ room → 0 ≡ orRoom n bs room
-    number-none h = number-last _ (le-leb (length bs) room h)
+    number-none h = sym (number-enough h ∙ z)
 
 -- ---- a slice, by the number m that is returned
 
@@ -70,3 +97,8 @@ module _ (n : ℕ) (bs slice : List ℕ) where
 
     pub own-left : length bs ≤ length slice → Answered 0 (splice slice 0 bs)
     own-left h = let q = number-none n bs (length slice) z h in (q, left-written 0 (orRoom n bs (length slice)) q bs slice refl)
+
+  -- an answered call: the rules before 13 are kept, and the bytes stand at the slice's start
+  pub own-answered : (m : ℕ) (left : List ℕ) → Answered m left → m ≡ 0 → (n ≡ 0) × (left ≡ splice slice 0 bs)
+  own-answered m left a z =
+      let e : orRoom n bs (length slice) ≡ 0 = sym (a .0) ∙ z in (orElse-none n (cond (leb (length bs) (length slice)) 0 13) e .0, a .1 ∙ ap (λ (k : ℕ). leftBy k bs slice) e)

@@ -1,0 +1,32 @@
+-- What a caller learns of a call for C, as the checker has it from the `ensures` of the call: `OpenCall`, `PointCall`, `FillCall`, `CutCall`. A theorem over
+-- these speaks of the contract itself. `holding b s` is the slice b with the bytes s in it.
+use mathlib.Core.List.{List}
+use Prim.Native.Nat.{ℕ}
+use contract.Lifetimes.{Lfts}
+use denote.Ref.{RefT, at-last as holding}
+use Rattle.rules.specs.Cut.{Setup}
+use Rattle.tessarquin.proofs.tessarquin_open.Reads as open-reads
+use Rattle.tessarquin.proofs.tessarquin_point.Reads as point-reads
+use Rattle.tessarquin.proofs.tessarquin_fill.Reads as fill-reads
+use Rattle.tessarquin.proofs.tessarquin_cut.Reads as cut-reads
+
+-- lent a block of the bytes s and a slice of these bytes for the answer, `tessarquin_open` returned m and left these bytes in the slice
+abbrev pub OpenCall : List ℕ → List ℕ → ℕ → List ℕ → Type 0
+OpenCall s answer m left = (κs : Lfts 2) × (b : RefT (List ℕ)) × (a : RefT (List ℕ)) × open-reads.Learnt κs (holding b s, (holding a answer, tt)) m (holding b s, (holding a left, tt))
+
+-- the same of `tessarquin_point`, for point k of segment n of an array
+abbrev pub PointCall : List ℕ → ℕ → ℕ → ℕ → List ℕ → ℕ → List ℕ → Type 0
+PointCall s array n k answer m left =
+    (κs : Lfts 2) × (b : RefT (List ℕ)) × (a : RefT (List ℕ)) × point-reads.Learnt κs (holding b s, (array, (n, (k, (holding a answer, tt))))) m (holding b s, (array, (n, (k, (holding a left, tt)))))
+
+-- the same of `tessarquin_fill`, for segment n of an array
+abbrev pub FillCall : List ℕ → ℕ → ℕ → List ℕ → ℕ → List ℕ → Type 0
+FillCall s array n answer m left =
+    (κs : Lfts 2) × (b : RefT (List ℕ)) × (a : RefT (List ℕ)) × fill-reads.Learnt κs (holding b s, (array, (n, (holding a answer, tt)))) m (holding b s, (array, (n, (holding a left, tt))))
+
+-- lent a block of the bytes s, a slice for the block that is cut and one for c and its length, `tessarquin_cut` returned m and left these bytes in the two
+abbrev pub CutCall : List ℕ → Setup → ℕ → List ℕ → List ℕ → ℕ → List ℕ → List ℕ → Type 0
+CutCall s c q out answer m left second =
+    (κs : Lfts 3) × (b : RefT (List ℕ)) × (o : RefT (List ℕ)) × (a : RefT (List ℕ))
+    × cut-reads.Learnt κs (holding b s, (c .sp, (c .np, (c .fp, (c .sn, (q, (holding o out, (holding a answer, tt)))))))) m
+    (holding b s, (c .sp, (c .np, (c .fp, (c .sn, (q, (holding o left, (holding a second, tt))))))))
