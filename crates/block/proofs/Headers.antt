@@ -1,6 +1,6 @@
 -- The same payload under another accepted header: `open` answers the same but for where the payload starts (`open-same`), and the texts have the same
 -- bytes (`text-same`, `label-same`).
-use mathlib.Core.Path.{_≡_, refl, sym, ap, _∙_, subst}
+use mathlib.Core.Path.{_≡_, refl, sym, _∙_}
 use mathlib.Core.List.{List, []}
 use Prim.Native.Nat.{ℕ, zero, suc}
 use denote.Ref.{RefT, now}
