@@ -22,10 +22,11 @@ RUN := qemu-x86_64
 LISTING := qemu-x86_64 -L /usr/x86_64-linux-gnu target/bin/listing
 PACKAGES := gcc-x86-64-linux-gnu g++-x86-64-linux-gnu qemu-user
 endif
-CFLAGS := -std=gnu11 -O2 -Wall -Wextra -Werror -static -Iinclude -Icrates/measured
+CFLAGS := -std=gnu11 -O2 -Wall -Wextra -Werror -static -Iinclude -Icrates/measured -Icrates/compared
 INSTALL := DEBIAN_FRONTEND=noninteractive apt-get install -qy
 ARCHIVE := target/staticlib/libtessarquin.a
 MEASURED := target/staticlib/libmeasured.a
+COMPARED := target/staticlib/libcompared.a
 HOST := host/trace.c host/ends.c host/files.c host/decimal.c
 FILE ?= crates/listing/stdin
 CARGO := --release --offline --locked --manifest-path tests/Cargo.toml --target-dir target/tests
@@ -79,10 +80,10 @@ target/host/made: host/tests/made.c host/tests/blocks.h | tools
 	@mkdir -p target/host
 	@$(CC) $(CFLAGS) $< -o $@
 
-# The independent reader and the runner that makes the calls, the test calls of measured among them.
-compare: tools archive archive-measured
+# The independent reader and the runner that makes the calls, those that are not in the library among them.
+compare: tools archive archive-measured archive-compared
 	@cargo build -q $(CARGO) --workspace
-	@$(CC) $(CFLAGS) tests/runner.c $(ARCHIVE) $(MEASURED) -o target/tests/runner
+	@$(CC) $(CFLAGS) tests/runner.c $(ARCHIVE) $(MEASURED) $(COMPARED) -o target/tests/runner
 
 soak: compare
 	@target/tests/release/compare --cases $(N) --seed $(SEED) -- $(RUN) target/tests/runner

@@ -19,6 +19,7 @@
 #include <sys/mman.h>
 #include <sys/resource.h>
 
+#include "compared.h"
 #include "measured.h"
 #include "tessarquin.h"
 
@@ -145,14 +146,14 @@ static uint32_t call(enum kind kind, const uint32_t n[5], const struct slice len
     case FLOATS:
         return measured_fill(block, block_len, n[0], n[1], floats(&lent[ANSWER]), answer_len / sizeof(double));
     case WALK:
-        return measured_steps(block, block_len, n[0], n[1], floats(&lent[OUT]), out_len / sizeof(double),
+        return compared_steps(block, block_len, n[0], n[1], floats(&lent[OUT]), out_len / sizeof(double),
                               floats(&lent[ANSWER]), answer_len / sizeof(double));
     case STEP:
-        return measured_step(block, block_len, n[0], n[1], n[2], floats(&lent[ANSWER]), answer_len / sizeof(double));
+        return compared_step(block, block_len, n[0], n[1], n[2], floats(&lent[ANSWER]), answer_len / sizeof(double));
     case USER_TEXT:
-        return measured_user_text(block, block_len, answer, answer_len);
+        return compared_user_text(block, block_len, answer, answer_len);
     case LABEL:
-        return measured_label(block, block_len, fallback, fallback_len, answer, answer_len);
+        return compared_label(block, block_len, fallback, fallback_len, answer, answer_len);
     }
     fprintf(stderr, "no such call: %d\n", kind);
     exit(2);

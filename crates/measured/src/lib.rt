@@ -1,8 +1,4 @@
-// Calls that are not in the library. `make bench` counts the values of a segment as floats, by the fill, and by the walk, which leaves the same, bit
-// for bit. The comparison asks for that fill, and for what no call in C hands out: a walk with its times, and the texts.
-mod texts;
-mod walks;
-
+// Two calls that are there to be counted: the values of a segment as floats, by the fill, and by the walk, which leaves the same, bit for bit.
 use points::Place;
 use points::Step;
 ghost use mathlib.Core.Path.{_≡_};

@@ -2,11 +2,11 @@
 ghost use mathlib.Core.Path.{_≡_};
 ghost use lib.ListN.{length};
 ghost use Rattle.block.specs.Texts.{textOf, labelOf};
-ghost use Rattle.measured.specs.Tested.{copied};
+ghost use Rattle.compared.specs.Tested.{copied};
 
 // The user text of a block, at the start of out.
 #[no_mangle]
-pub extern "C" fn measured_user_text(block: &[u8], out: &mut [u8]) -> usize
+pub extern "C" fn compared_user_text(block: &[u8], out: &mut [u8]) -> usize
     ensures { λ r. ⌜ r ≡ length (textOf (now (block .entry))) ⌝ }
     ensures { λ _. ⌜ now (out .exit) ≡ copied (textOf (now (block .entry))) (now (out .entry)) ⌝ }
 {
@@ -16,7 +16,7 @@ pub extern "C" fn measured_user_text(block: &[u8], out: &mut [u8]) -> usize
 
 // The label of a block, or the fallback, at the start of out.
 #[no_mangle]
-pub extern "C" fn measured_label<'a>(block: &'a [u8], fallback: &'a [u8], out: &mut [u8]) -> usize
+pub extern "C" fn compared_label<'a>(block: &'a [u8], fallback: &'a [u8], out: &mut [u8]) -> usize
     ensures { λ r. ⌜ r ≡ length (labelOf (now (block .entry)) (now (fallback .entry))) ⌝ }
     ensures { λ _. ⌜ now (out .exit) ≡ copied (labelOf (now (block .entry)) (now (fallback .entry))) (now (out .entry)) ⌝ }
 {

@@ -13,10 +13,10 @@ use Rattle.rules.proofs.Numbers.{below-index}
 use Rattle.fills.specs.Fills.{over}
 use Rattle.fills.proofs.Writes.{over-none, map-one}
 use Rattle.points.specs.Walks.{afterOf, placeAfter}
 use Rattle.measured.proofs.Walked.{all-written, points-are, handed, stopped}
 use borrow.Author.Needs.{needs}
-use Rattle.measured.proofs.walks.put_steps.Statement.{statement}
-use Rattle.measured.proofs.walks.put_steps.Tie as tie
+use Rattle.compared.proofs.walks.put_steps.Statement.{statement}
+use Rattle.compared.proofs.walks.put_steps.Tie as tie
 
 abbrev Inv-loop : tie.InvT-loop
 Inv-loop block array segment values₀ times₀ place₀ k₀ values times place k =

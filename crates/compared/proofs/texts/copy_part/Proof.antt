@@ -6,10 +6,10 @@ use lib.ListN.{length}
 use lib.Seq.{take-length}
 use Rattle.rules.specs.Numbers.{splice}
 use Rattle.fills.proofs.Writes.{over-start}
-use Rattle.measured.proofs.Tested.{copied-fits, copied-short}
+use Rattle.compared.proofs.Tested.{copied-fits, copied-short}
 use borrow.Author.Needs.{needs}
-use Rattle.measured.proofs.texts.copy_part.Statement.{statement}
-use Rattle.measured.proofs.texts.copy_part.Tie as tie
+use Rattle.compared.proofs.texts.copy_part.Statement.{statement}
+use Rattle.compared.proofs.texts.copy_part.Tie as tie
 
 returns : tie.Need-returns
 returns c = let a = c .before .before .before .args in (refl, copied-short (a .part .now) (a .out .now) (c .if1 .taken))

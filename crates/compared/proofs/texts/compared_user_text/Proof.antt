@@ -3,10 +3,10 @@ use mathlib.Core.Path.{ap, _∙_}
 use mathlib.Core.List.{List}
 use Prim.Native.Nat.{ℕ}
 use lib.ListN.{length}
-use Rattle.measured.specs.Tested.{copied}
+use Rattle.compared.specs.Tested.{copied}
 use borrow.Author.Needs.{needs}
-use Rattle.measured.proofs.texts.measured_user_text.Statement.{statement}
-use Rattle.measured.proofs.texts.measured_user_text.Tie as tie
+use Rattle.compared.proofs.texts.compared_user_text.Statement.{statement}
+use Rattle.compared.proofs.texts.compared_user_text.Tie as tie
 
 user-text-requires : tie.Need-user-text-requires
 user-text-requires c κs = search needs
@@ -24,6 +24,6 @@ returns c =
     let p = c .before .before .copy-part .ensures in
     (p .0 ∙ ap length t, p .1 ∙ ap (λ (l : List ℕ). copied l (a .out .now)) t)
 
-pub measured-user-text-spec : {M : Type 1} → statement M
-measured-user-text-spec =
+pub compared-user-text-spec : {M : Type 1} → statement M
+compared-user-text-spec =
     tie.close (tie.spec user-text-requires copy-part-requires same-length returns)

@@ -7,12 +7,12 @@ use lib.Ieee.{Float}
 use lib.ListN.{length}
 use Rattle.rules.specs.Rules.{opened}
 use Rattle.rules.specs.Points.{value, time}
-use Rattle.measured.specs.Tested.{stepsNumber, valuesLeft, timesLeft}
+use Rattle.compared.specs.Tested.{stepsNumber, valuesLeft, timesLeft}
 use Rattle.measured.proofs.Walked.{number-refused, walks, points-are, number-short, number-none}
-use Rattle.measured.proofs.Tested.{steps-refused, steps-full}
+use Rattle.compared.proofs.Tested.{steps-refused, steps-full}
 use borrow.Author.Needs.{needs}
-use Rattle.measured.proofs.walks.measured_steps.Statement.{statement}
-use Rattle.measured.proofs.walks.measured_steps.Tie as tie
+use Rattle.compared.proofs.walks.compared_steps.Statement.{statement}
+use Rattle.compared.proofs.walks.compared_steps.Tie as tie
 
 -- a refused walk leaves both slices as they were
 refused : (s : List ℕ) (a n m : ℕ) (values times : List Float) → m ≡ stepsNumber s a n values times → (m ≡ 0 → ⊥)
@@ -94,8 +94,8 @@ returns-4 c =
       ),
     )
 
-pub measured-steps-spec : {M : Type 1} → statement M
-measured-steps-spec =
+pub compared-steps-spec : {M : Type 1} → statement M
+compared-steps-spec =
     tie.close
     (tie.spec
     place-of-requires

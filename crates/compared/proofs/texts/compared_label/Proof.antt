@@ -3,10 +3,10 @@ use mathlib.Core.Path.{ap, _∙_}
 use mathlib.Core.List.{List}
 use Prim.Native.Nat.{ℕ}
 use lib.ListN.{length}
-use Rattle.measured.specs.Tested.{copied}
+use Rattle.compared.specs.Tested.{copied}
 use borrow.Author.Needs.{needs}
-use Rattle.measured.proofs.texts.measured_label.Statement.{statement}
-use Rattle.measured.proofs.texts.measured_label.Tie as tie
+use Rattle.compared.proofs.texts.compared_label.Statement.{statement}
+use Rattle.compared.proofs.texts.compared_label.Tie as tie
 
 label-requires : tie.Need-label-requires
 label-requires c κs = search needs
@@ -24,5 +24,5 @@ returns c =
     let p = c .before .before .copy-part .ensures in
     (p .0 ∙ ap length t, p .1 ∙ ap (λ (l : List ℕ). copied l (a .out .now)) t)
 
-pub measured-label-spec : {M : Type 1} → statement M
-measured-label-spec = tie.close (tie.spec label-requires copy-part-requires same-length returns)
+pub compared-label-spec : {M : Type 1} → statement M
+compared-label-spec = tie.close (tie.spec label-requires copy-part-requires same-length returns)

@@ -8,11 +8,11 @@ use lib.ListN.{length}
 use lib.Seq.{sets-eq}
 use Rattle.points.specs.declared.walk.Step.{Step}
 use Rattle.points.specs.Walks.{valuesOf}
-use Rattle.measured.specs.Tested.{copied}
-use Rattle.measured.proofs.Tested.{copied-fits, copied-short}
+use Rattle.compared.specs.Tested.{copied}
+use Rattle.compared.proofs.Tested.{copied-fits, copied-short}
 use borrow.Author.Needs.{needs}
-use Rattle.measured.proofs.walks.measured_step.Statement.{statement}
-use Rattle.measured.proofs.walks.measured_step.Tie as tie
+use Rattle.compared.proofs.walks.compared_step.Statement.{statement}
+use Rattle.compared.proofs.walks.compared_step.Tie as tie
 
 walked-requires : tie.Need-walked-requires
 walked-requires c κs = search needs
@@ -56,8 +56,8 @@ returns-3 c =
     let e = sym (c .enum-told .given .1) ∙ c .before .before .walked .ensures in
     (ap (λ (r : Step). length (valuesOf r)) e, copied-fits [] out (omega arith) ∙ ap (λ (r : Step). copied (valuesOf r) out) e)
 
-pub measured-step-spec : {M : Type 1} → statement M
-measured-step-spec =
+pub compared-step-spec : {M : Type 1} → statement M
+compared-step-spec =
     tie.close
     (tie.spec
     walked-requires

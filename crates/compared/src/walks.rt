@@ -9,11 +9,11 @@ ghost use Rattle.rules.specs.Numbers.{upFrom};
 ghost use Rattle.rules.specs.Rules.{opened};
 ghost use Rattle.rules.specs.Points.{value, time, walkRefusal};
 ghost use Rattle.points.specs.Walks.{placeOf, stepAt, movedTo, valuesOf};
-ghost use Rattle.measured.specs.Tested.{copied, stepsNumber, valuesLeft, timesLeft};
+ghost use Rattle.compared.specs.Tested.{copied, stepsNumber, valuesLeft, timesLeft};
 
 // The value and the time of each point that a walk hands out until it is done, at the start of values and of times.
 #[no_mangle]
-pub extern "C" fn measured_steps(
+pub extern "C" fn compared_steps(
     block: &[u8],
     array: u32,
     segment: u32,
@@ -40,7 +40,7 @@ pub extern "C" fn measured_steps(
 
 // What the step after the first k hands out, and how many numbers that is: a value and a time, or none. An out that is shorter holds what it held.
 #[no_mangle]
-pub extern "C" fn measured_step(
+pub extern "C" fn compared_step(
     block: &[u8],
     array: u32,
     segment: u32,

@@ -10,7 +10,7 @@ use Rattle.rules.specs.Numbers.{upFrom}
 use Rattle.rules.specs.Wave.{points}
 use Rattle.rules.specs.Rules.{opened}
 use Rattle.points.specs.Points.{outBy}
-use Rattle.measured.specs.Tested.{copied, stepsLeft}
+use Rattle.compared.specs.Tested.{copied, stepsLeft}
 
 module _ {A : Type 0} (part out : List A) where
   pub copied-fits : length part ≤ length out → part ++ drop (length part) out ≡ copied part out
