@@ -15,8 +15,8 @@ use Rattle.rules.specs.Numbers.{upFrom}
 use Rattle.scale.proofs.Samples.{cast-fits, cast-same}
 use Rattle.fills.specs.Fills.{over}
 use Rattle.fills.proofs.Writes.{over-none, over-whole, length-map-up, all-next, map-one, map-getD}
-use Rattle.fills.proofs.values.widen.Statement.{statement}
-use Rattle.fills.proofs.values.widen.Tie as tie
+use Rattle.fills.proofs.samples.widen.Statement.{statement}
+use Rattle.fills.proofs.samples.widen.Tie as tie
 
 abbrev Inv-loop : tie.InvT-loop
 Inv-loop samples wide₀ k₀ wide k =
