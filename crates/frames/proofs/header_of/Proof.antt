@@ -10,11 +10,18 @@ use borrow.Author.Needs.{needs}
 use Rattle.frames.proofs.header_of.Statement.{statement}
 use Rattle.frames.proofs.header_of.Tie as tie
 
+-- `#` and a digit from 1 to 9
+begun : (c : tie.Else2) → started (c .before .before .before .before .before .args .block .now) ≡ true
+begun c = not-false _ (c .if2 .left)
+
+digit : (c : tie.Else2) → let d = getD (c .before .before .before .before .before .args .block .now) 1 0 in (49 ≤ d) × (d ≤ 57)
+digit c = started-says (c .before .before .before .before .before .args .block .now) (begun c)
+
 unframed-requires : tie.Need-unframed-requires
 unframed-requires c κs = search needs
 
 returns : tie.Need-returns
-returns c = c .unframed .ensures ∙ unframed-short _ (c .before .if1 .taken)
+returns c = c .unframed .ensures ∙ unframed-short (c .before .before .before .args .block .now) (omega (arith, c .before .if1 .taken))
 
 shared-slice-read-d : tie.Need-shared-slice-read-d
 shared-slice-read-d c = search needs
@@ -27,13 +34,6 @@ unframed-requires-2 c κs = search needs
 
 returns-2 : tie.Need-returns-2
 returns-2 c = c .unframed2 .ensures ∙ unframed-start (c .before .before .before .before .before .before .args .block .now) (not-true _ (c .before .if2 .taken))
-
--- `#` and a digit from 1 to 9
-begun : (c : tie.Else2) → started (c .before .before .before .before .before .args .block .now) ≡ true
-begun c = not-false _ (c .if2 .left)
-
-digit : (c : tie.Else2) → let d = getD (c .before .before .before .before .before .args .block .now) 1 0 in (49 ≤ d) × (d ≤ 57)
-digit c = started-says (c .before .before .before .before .before .args .block .now) (begun c)
 
 sub-start : tie.Need-sub-start
 sub-start c = omega (arith, digit c)

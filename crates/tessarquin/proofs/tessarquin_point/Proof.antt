@@ -55,10 +55,10 @@ returns-2 c =
     own-short (pointRefusal (a .block .now) (a .array) (a .segment) (a .point)) (pointBytes (a .block .now) (a .array) (a .segment) (a .point)) (a .answer .now) (sym (number (c .before .before .before)) ∙ c .before .if1 .left) (omega (arith, c .if2 .taken, pair-length (toBits binary64 (value (opened (a .block .now)) (a .array) (a .segment) (a .point))) (toBits binary64 (time (opened (a .block .now)) (a .segment) (a .point)))))
 
 bits-requires : tie.Need-bits-requires
-bits-requires c κs = clean (c .before) .0
+bits-requires c κs = search (needs, clean (c .before) .0, clean (c .before) .1)
 
 bits-requires-2 : tie.Need-bits-requires-2
-bits-requires-2 c κs = clean (c .before .before) .1
+bits-requires-2 c κs = search (needs, clean (c .before .before) .0, clean (c .before .before) .1)
 
 put-pair-requires : tie.Need-put-pair-requires
 put-pair-requires c κs = search needs
