@@ -15,7 +15,7 @@
 static uint8_t *block, *out;
 static double *values;
 static size_t length, samples, points;
-static uint8_t answer[40];
+static uint8_t answer[TESSARQUIN_LAYOUT_BYTES];
 static const float gain = 0.5f, offset = 0.25f;
 
 /* ---- blocks: one segment of words or bytes, or many segments with trigger times */
@@ -49,6 +49,9 @@ static void with_six_digits(void)
 /* ---- the cases */
 
 static uint32_t opened(void) { return tessarquin_open(block, length, answer, sizeof answer); }
+static uint32_t laid_out(void) { return tessarquin_layout(block, length, answer, sizeof answer); }
+static uint32_t text_found(void) { return tessarquin_user_text(block, length, answer, sizeof answer); }
+static uint32_t label_found(void) { return tessarquin_label(block, length, (const uint8_t *)"C1", 2, answer, sizeof answer); }
 static uint32_t one_point(void) { return tessarquin_point(block, length, 1, 1, (uint32_t)(points - 1), answer, sizeof answer); }
 static uint32_t last_segment(void) { return tessarquin_point(block, length, 1, (uint32_t)points, 0, answer, sizeof answer); }
 static uint32_t filled(void) { return tessarquin_fill(block, length, 1, 1, out, 8 * points); }
@@ -118,6 +121,10 @@ static const struct work {
     {"open-trigger-high", 0, 2, 1, opened, NULL},
     {"open-below-zero-low", 1, 2, 1, opened, NULL},
     {"open-below-zero-high", 0, 2, 1, opened, NULL},
+    {"layout", 1, 2, 0, laid_out, NULL},
+    {"user-text", 1, 2, 0, text_found, NULL},
+    {"label", 1, 2, 0, label_found, NULL},
+    {"label-full", 1, 2, 0, label_found, NULL},
     {"point", 1, 2, 0, one_point, NULL},
     {"point-trigger", 1, 2, 1, last_segment, NULL},
     {"sequence-whole", 1, 2, IN_SEQUENCE, of_whole, NULL},
@@ -152,6 +159,8 @@ static uint32_t (*prepare(const char *who, const char *name, size_t n))(void)
     make(w->order, w->width, w->in_each ? n : 1, w->in_each ? w->in_each : n, w->in_each != 0);
     if (strcmp(name, "open-six") == 0)
         with_six_digits();
+    if (strcmp(name, "label-full") == 0)
+        memset(block + HEADER + 96, 'x', 16);
     if (strncmp(name, "open-below-zero", 15) == 0)
         put_double(block, w->order, DESCRIPTOR_BYTES, -1.0);
     uint32_t (*work)(void) = strcmp(who, "lib") == 0 ? w->lib : w->c;
@@ -217,6 +226,9 @@ static void print_stacks(void)
     make(0, 2, 10, 200, 1);
     size_t none = touched(nothing);
     printf("tessarquin_open %zu\n", touched(opened) - none);
+    printf("tessarquin_layout %zu\n", touched(laid_out) - none);
+    printf("tessarquin_user_text %zu\n", touched(text_found) - none);
+    printf("tessarquin_label %zu\n", touched(label_found) - none);
     points = 200;
     printf("tessarquin_point %zu\n", touched(one_point) - none);
     printf("tessarquin_fill %zu\n", touched(filled) - none);

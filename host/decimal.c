@@ -37,7 +37,7 @@ char *put_count(char *to, uint32_t n)
 }
 
 /* n / 10^p, for n above 0, in the form of printf's %g: with an exponent only where the number is below 0.0001. */
-static char *put_digits(char *to, uint64_t n, int p)
+static char *put_scaled(char *to, uint64_t n, int p)
 {
     for (; n % 10 == 0; n /= 10)
         p--;
@@ -94,7 +94,7 @@ static char *put_exactly(char *to, double x)
         n += rest > half || (rest == half && n % 2 == 1);
         wide there = (wide)(n * unit) << s;
         if ((there > least && there < most) || (m % 2 == 0 && (there == least || there == most)))
-            return put_digits(to, n * unit, p);
+            return put_scaled(to, n * unit, p);
     }
 }
 
@@ -116,4 +116,9 @@ char *put_decimal(char *to, double x)
     if (!(size >= 1e-10 && size < 1e15))
         return put_by_library(to, x);
     return put_exactly(x < 0 ? copy(to, "-", 1) : to, size);
+}
+
+char *put_digits(char *to, double x, int digits)
+{
+    return to + snprintf(to, DECIMAL_MOST, "%.*g", digits, x);
 }

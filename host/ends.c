@@ -1,9 +1,10 @@
 /* How the program ends where something went wrong: one line on standard error, and a status. */
 #include "host.h"
 
+#include <errno.h>
 #include <stdarg.h>
-#include <stdio.h>
 #include <stdlib.h>
+#include <string.h>
 
 void fail(int status, const char *format, ...)
 {
@@ -14,6 +15,11 @@ void fail(int status, const char *format, ...)
     fputc('\n', stderr);
     va_end(args);
     exit(status);
+}
+
+void output_failed(void)
+{
+    fail(FAILED, "standard output: %s", strerror(errno));
 }
 
 void *memory(size_t size)

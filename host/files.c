@@ -18,8 +18,11 @@ static _Noreturn void file_failed(const char *name)
 
 struct file read_file(const char *name, size_t most)
 {
-    FILE *file = fopen(name, "rb");
+    int standard = strcmp(name, "-") == 0;
+    FILE *file = standard ? stdin : fopen(name, "rb");
     struct stat is;
+    if (standard)
+        name = "standard input";
     if (!file || fstat(fileno(file), &is) != 0)
         file_failed(name);
     uint8_t *bytes = memory(most);
@@ -27,7 +30,7 @@ struct file read_file(const char *name, size_t most)
     if (ferror(file))
         file_failed(name);
     fclose(file);
-    return (struct file){bytes, length, is.st_dev, is.st_ino};
+    return (struct file){name, bytes, length, is.st_dev, is.st_ino};
 }
 
 /* How many of the bytes were written; where not all, errno says why. */

@@ -4,6 +4,7 @@
 
 #include <stddef.h>
 #include <stdint.h>
+#include <stdio.h>
 #include <sys/types.h>
 
 /* ---- ends.c: how the program ends where something went wrong */
@@ -13,6 +14,9 @@ enum { REFUSED = 1, USAGE = 2, FAILED = 3 };
 /* One line on standard error, then the end. */
 _Noreturn void fail(int status, const char *format, ...) __attribute__((format(printf, 2, 3)));
 
+/* The end, where standard output takes no more. */
+_Noreturn void output_failed(void);
+
 /* So many bytes, or the end. */
 void *memory(size_t size);
 
@@ -20,13 +24,14 @@ void *memory(size_t size);
 
 /* The bytes of a file, and the two numbers that tell it from every other file, whatever its names. */
 struct file {
+    const char *name;
     uint8_t *bytes;
     size_t length;
     dev_t device;
     ino_t inode;
 };
 
-/* The first `most` bytes of a file, or all. */
+/* The first `most` bytes of a file, or all; "-" is standard input. */
 struct file read_file(const char *name, size_t most);
 
 /*
@@ -41,12 +46,92 @@ struct file read_file(const char *name, size_t most);
  */
 int write_file(struct file from, const char *to, int replace, const uint8_t *bytes, size_t length);
 
+/* ---- blocks.c: the block in a file, and what the library says of it */
+
+/* Words such as "C1:WF ALL," that an oscilloscope answers before the block have so many bytes at most. */
+#define WORDS_MOST ((size_t)64)
+
+struct block {
+    struct file file;
+    const uint8_t *bytes; /* from the # on, where the file has words before it */
+    size_t length;
+};
+
+/* Where a part of the payload stands. */
+struct part {
+    const uint8_t *bytes;
+    size_t length;
+};
+
+/* A block that was opened. */
+struct opened {
+    struct block block;
+    uint32_t segments, points, arrays, order, type;
+    uint32_t first, sparsing, index;
+    const uint8_t *payload;
+    struct part trigtime, ristime, text;
+};
+
+struct block read_block(const char *name);
+
+/* The block opened, or the end with its refusal. */
+struct opened open_block(struct block block);
+
+/* Segment n as a block of its own, in `room` bytes: its points have the same bits. */
+struct block cut_out(const struct opened *o, uint32_t n, uint8_t *out, size_t room);
+
+/* The TRIGGER_TIME of segment n, where the block has trigger times. */
+double trigger_time(const struct opened *o, uint32_t n);
+
+/* ---- why.c: refusals with the numbers that were found */
+
+/* What was asked of a block, where something was. */
+struct asked {
+    uint32_t array, segment, point, sp;
+};
+
+/* The end: one line with what is refused, its number, what was found there, and what can be done. */
+_Noreturn void refuse_block(struct block block, uint32_t refusal);
+_Noreturn void refuse_question(const char *what, const struct opened *o, struct asked asked, uint32_t refusal);
+
+/* ---- show.c, points.c: the commands */
+
+void show(const char *name);
+
+/* How points are printed: as a table with a heading, or in plain lines; with so many digits, or 0 for as many as are
+   needed to read the same number back. */
+struct form {
+    int csv, digits;
+};
+
+/* Of all segments where `segment` is null. */
+void print_points(const char *name, uint32_t array, const uint32_t *segment, struct form form);
+
+/* ---- words.c: texts and whole numbers for a person */
+
+/* A text of a block. Printable ASCII and valid UTF-8 are written as they are, and every other byte, the backslash too,
+   as \xNN: nothing that would move a terminal's cursor, hide a letter or turn the line around. */
+void write_text(FILE *to, const uint8_t *text, size_t length);
+
+/* How many bytes there are, for a message: 16,777,216. Each of the last eight answers stays. */
+const char *grouped(int64_t n);
+
+/* The name of an enum's number, as the template has it, or the number. */
+const char *record_type(int n);
+const char *processing(int n);
+const char *coupling(int n);
+const char *bandwidth_limit(int n);
+const char *wave_source(int n);
+
 /* ---- decimal.c: numbers as text; each answers the end of what it wrote */
 
 #define DECIMAL_MOST 32
 
 /* The fewest of 15, 16 and 17 digits that are read back as x, without zeros at their end: at most DECIMAL_MOST bytes. */
 char *put_decimal(char *to, double x);
+
+/* x in so many digits, from 1 to 17, without zeros at their end: at most DECIMAL_MOST bytes. */
+char *put_digits(char *to, double x, int digits);
 
 /* A whole number: at most 10 bytes. */
 char *put_count(char *to, uint32_t n);

@@ -4,27 +4,40 @@
  * A block is what an oscilloscope answers to WF? with COMM_FORMAT DEF9: the bytes "#9", nine decimal digits that
  * give the payload's length, the payload (346 bytes of descriptor, texts, tables, samples), and at most one new line.
  * Loggers write shorter headers of the same kind: '#', a digit d from 1 to 9, and d digits. All are taken, leading
- * zeros too, and none changes an answer. With the '#' as byte 0, the payload starts at byte 2 + d.
+ * zeros too, and none changes an answer but where the payload starts: with the '#' as byte 0, at byte 2 + d.
  * Whatever stands before the '#' is for the caller to remove.
  *
- * Four calls, each proved to meet its description for every input:
+ * Seven calls, each proved to meet its description for every input:
  *
- *     tessarquin_open   is this a block that obeys the template, and what is in it?
- *     tessarquin_point  one point, in volts and seconds
- *     tessarquin_fill   all the points of a segment, in volts
- *     tessarquin_cut    a smaller block: some segments, every so many-th point, in either byte order
+ *     tessarquin_open       is this a block that obeys the template, and what is in it?
+ *     tessarquin_layout     where do the descriptor and the other parts stand?
+ *     tessarquin_user_text  where does the user text stand?
+ *     tessarquin_label      where does the label stand, or is there none?
+ *     tessarquin_point      one point, in volts and seconds
+ *     tessarquin_fill       all the points of a segment, in volts
+ *     tessarquin_cut        a smaller block: some segments, every so many-th point, in either byte order
  *
  * What holds for all of them
  *
  *   - A call takes any bytes and any numbers, and ends. It checks the block anew each time.
- *   - It returns 0, or the number of its refusal: the first rule broken, in the order of enum tessarquin_refusal.
- *     A refused call writes nothing.
- *   - Answers are numbers of eight bytes, the high byte first; tessarquin_number and tessarquin_double below read them.
- *     Behind the answer a slice keeps what it held.
+ *   - It returns 0, or the number of its refusal: the first rule broken, in the order of TESSARQUIN_REFUSALS.
+ *     A refused call writes nothing. tessarquin_text has the refusal in words.
+ *   - Answers are numbers of eight bytes, the high byte first. tessarquin_number, tessarquin_double and
+ *     tessarquin_doubles read them; each number of an answer has a name. Behind the answer a slice keeps what it held.
  *   - There is no state, no allocation and no system call: any thread may call, also at the same time on one block.
  *   - A slice is a pointer and the bytes behind it. A pointer is never null, also where the length is 0. The slices of
  *     one call do not overlap, and no other thread writes to them during the call.
  *   - A call takes less than 1,024 bytes of stack.
+ *
+ * A field of the descriptor, such as the unit of the values, is read where it stands once a call has accepted the
+ * block, by its offset and by one of the readers tessarquin_field_..:
+ *
+ *     uint8_t layout[TESSARQUIN_LAYOUT_BYTES];
+ *     if (tessarquin_layout(block, block_len, layout, sizeof layout) == TESSARQUIN_OK) {
+ *         const uint8_t *payload = block + tessarquin_number(layout, TESSARQUIN_LAYOUT_START);
+ *         const uint8_t *unit = payload + TESSARQUIN_AT_VERTUNIT;
+ *         printf("%.*s\n", (int)tessarquin_field_text(unit, TESSARQUIN_UNIT_BYTES), (const char *)unit);
+ *     }
  *
  * Link with libtessarquin.a (x86-64, System V calls, no other library).
  */
@@ -39,61 +52,153 @@
 extern "C" {
 #endif
 
-/* Why a call was refused, in the order of the checks: the first that applies is the one returned. */
+/* The version of these calls. Below 1.0 the second number moves where a call takes or answers something else. */
+#define TESSARQUIN_VERSION_MAJOR 0
+#define TESSARQUIN_VERSION_MINOR 1
+#define TESSARQUIN_VERSION "0.1"
+
+/*
+ * Why a call is refused, in the order of the checks: the first that applies is the number returned. Each entry is the
+ * name, the number, when it is given, and what the caller can do. A host makes tables of its own from the list, in its
+ * own language for example. 14 was never given and is not used; no call here gives 15 to 19.
+ */
+#define TESSARQUIN_REFUSALS(X)                                                                                         \
+    X(FRAME, 1, "it does not start with #, a digit d from 1 to 9, and d digits",                                       \
+      "hand over the bytes from the # on, as the instrument wrote them")                                               \
+    X(LENGTH, 2, "the length in the header is not that of the data, or is not from 346 to 16,777,216",                 \
+      "fetch the block again, with all its bytes and at most one new line behind them")                                \
+    X(NAME, 3, "it is not a WAVEDESC block of the template LECROY_2_3",                                                \
+      "read it with a program for its own template")                                                                   \
+    X(FORM, 4, "COMM_ORDER or COMM_TYPE is neither of its two values",                                                 \
+      "fetch the block again: its descriptor is damaged")                                                              \
+    X(TILE, 5, "the lengths of the parts do not add up to the payload",                                                \
+      "fetch the block again: its descriptor is damaged, or a part is missing")                                        \
+    X(COUNT, 6, "the counts of points and segments do not fit the lengths of arrays and tables",                       \
+      "fetch the block again: its descriptor is damaged")                                                              \
+    X(INDEX, 7, "FIRST_POINT or SPARSING_FACTOR is out of range",                                                      \
+      "fetch the block again, with a smaller FP or SP: its last point has to stand at 268,435,455 or below")           \
+    X(FLOAT, 8, "a gain, offset, interval or table entry is infinite or not a number",                                 \
+      "fetch the block again: its descriptor or a table is damaged")                                                   \
+    X(TIME, 20, "a TRIGGER_TIME is less than the one before it",                                                       \
+      "fetch the block again: its segments are out of order, or their times are damaged")                              \
+    X(CHOICE, 9, "there is no such array, or no such byte order",                                                      \
+      "ask for an array that is there, 1 or 2, or for byte order 0 or 1")                                              \
+    X(SEGMENT, 10, "there is no such segment",                                                                         \
+      "ask for a segment that is there, from 1 on; a cut takes 0 for all")                                             \
+    X(POINT, 11, "there is no such point in a segment",                                                                \
+      "ask for a point that is there, from 0 on")                                                                      \
+    X(SPARSE, 12, "the block is thinned too much already for this step",                                               \
+      "cut with a smaller SP: its product with SPARSING_FACTOR has to be 268,435,455 or below")                        \
+    X(ROOM, 13, "a slice lent for the answer is too short",                                                            \
+      "lend as many bytes as the call says that its answer takes")
+
 enum tessarquin_refusal {
     TESSARQUIN_OK = 0,
-    TESSARQUIN_FRAME = 1,    /* it does not start with #, a digit d from 1 to 9, and d digits */
-    TESSARQUIN_LENGTH = 2,   /* the length in the header is not that of the data, or is out of range */
-    TESSARQUIN_NAME = 3,     /* it is not a WAVEDESC block of the template LECROY_2_3 */
-    TESSARQUIN_FORM = 4,     /* COMM_ORDER or COMM_TYPE is neither of its two values */
-    TESSARQUIN_TILE = 5,     /* the lengths of the parts do not add up to the payload */
-    TESSARQUIN_COUNT = 6,    /* the counts of points and segments do not fit the lengths of arrays and tables */
-    TESSARQUIN_INDEX = 7,    /* FIRST_POINT or SPARSING_FACTOR is out of range */
-    TESSARQUIN_FLOAT = 8,    /* a gain, offset, interval or table entry is infinite or not a number */
-    TESSARQUIN_TIME = 20,    /* a TRIGGER_TIME is less than the one before it */
-    TESSARQUIN_CHOICE = 9,   /* there is no such array, or no such byte order */
-    TESSARQUIN_SEGMENT = 10, /* there is no such segment */
-    TESSARQUIN_POINT = 11,   /* there is no such point in a segment */
-    TESSARQUIN_SPARSE = 12,  /* the block is thinned too much already for this step */
-    TESSARQUIN_ROOM = 13     /* a slice lent for the answer is too short */
-    /* 14 was never given and is not used: what a cut writes obeys the rules. No call here gives 15 to 19. */
+#define TESSARQUIN_AS_ENUM(name, number, when, what) TESSARQUIN_##name = number,
+    TESSARQUIN_REFUSALS(TESSARQUIN_AS_ENUM)
+#undef TESSARQUIN_AS_ENUM
 };
+
+/* COMM_ORDER: which byte of a number comes first. COMM_TYPE: what a sample is. */
+enum tessarquin_order { TESSARQUIN_HIFIRST = 0, TESSARQUIN_LOFIRST = 1 };
+enum tessarquin_type { TESSARQUIN_BYTE = 0, TESSARQUIN_WORD = 1 };
 
 /* The longest block: header, 16,777,216 bytes of payload, and a new line. */
 #define TESSARQUIN_BLOCK_MOST 16777228u
 
-/* A cut's payload is never longer than its block's, and its header is always "#9" and nine digits. So this many bytes
-   more than the block has are room for any cut of it. */
-#define TESSARQUIN_CUT_MORE 6u
+/* ---- opening */
 
-/* How long the answers are. */
+/* The numbers that tessarquin_open answers. */
+enum tessarquin_open_number {
+    TESSARQUIN_OPEN_SEGMENTS, /* g, how many segments there are, at least 1 */
+    TESSARQUIN_OPEN_POINTS,   /* M, how many points each segment has in each array, at least 1 */
+    TESSARQUIN_OPEN_ARRAYS,   /* how many arrays there are, 1 or 2 */
+    TESSARQUIN_OPEN_ORDER,    /* COMM_ORDER: TESSARQUIN_HIFIRST or TESSARQUIN_LOFIRST */
+    TESSARQUIN_OPEN_TYPE      /* COMM_TYPE: TESSARQUIN_BYTE or TESSARQUIN_WORD */
+};
 #define TESSARQUIN_OPEN_BYTES 40u
-#define TESSARQUIN_POINT_BYTES 16u
-#define TESSARQUIN_CUT_BYTES 16u
-#define TESSARQUIN_VALUE_BYTES 8u
 
 /*
  * Opens a block: refusals 1 to 8 and 20, then 13 if answer_len is below TESSARQUIN_OPEN_BYTES.
  * The two names are judged up to the zero byte that ends each; old bytes behind it are taken, and a cut copies them.
  * TRIGGER_TIMEs are compared as numbers, from one segment to the next: equal ones pass, and -0.0 is equal to 0.0.
  * TRIGGER_OFFSETs may have any order.
- *
- * The answer is five numbers:
- *     0  g, how many segments there are, at least 1
- *     1  M, how many points each segment has in each array, at least 1
- *     2  how many arrays there are, 1 or 2
- *     3  COMM_ORDER, 0 where the high byte comes first and 1 where the low byte does
- *     4  COMM_TYPE, 0 where a sample is a byte and 1 where it is a word
  */
 uint32_t tessarquin_open(const uint8_t *block, size_t block_len,
                          uint8_t *answer, size_t answer_len);
 
+/* The ten parts of a payload, in their order. Those of the names RES are always empty. */
+enum tessarquin_part {
+    TESSARQUIN_PART_DESCRIPTOR, /* 346 bytes: the fields of enum tessarquin_field */
+    TESSARQUIN_PART_USER_TEXT,
+    TESSARQUIN_PART_RES_DESC1,
+    TESSARQUIN_PART_TRIGTIME,   /* empty, or two doubles for each segment: TRIGGER_TIME, TRIGGER_OFFSET */
+    TESSARQUIN_PART_RISTIME,    /* empty, or doubles: RIS_OFFSET */
+    TESSARQUIN_PART_RES_ARRAY1,
+    TESSARQUIN_PART_ARRAY_1,    /* the samples, segment by segment */
+    TESSARQUIN_PART_ARRAY_2,    /* empty, or as many samples again */
+    TESSARQUIN_PART_RES_ARRAY2,
+    TESSARQUIN_PART_RES_ARRAY3
+};
+
+/* The numbers that tessarquin_layout answers. */
+enum tessarquin_layout_number {
+    TESSARQUIN_LAYOUT_START,         /* where the payload starts in the block */
+    TESSARQUIN_LAYOUT_FIRST_POINT,   /* F: point k stands at F + S k in the oscilloscope's trace buffer */
+    TESSARQUIN_LAYOUT_SPARSING,      /* S: SPARSING_FACTOR, and 1 where that is 0 */
+    TESSARQUIN_LAYOUT_SEGMENT_INDEX, /* SEGMENT_INDEX: which segment this is, where it was fetched or cut alone, or 0 */
+    TESSARQUIN_LAYOUT_SUBARRAYS,     /* SUBARRAY_COUNT as it stands: g, or 0 where g is 1 */
+    TESSARQUIN_LAYOUT_LENGTHS,       /* and behind it: how many bytes each part has; add the part's number */
+    TESSARQUIN_LAYOUT_STARTS = TESSARQUIN_LAYOUT_LENGTHS + 10 /* where each part starts in the payload; likewise */
+};
+#define TESSARQUIN_LAYOUT_BYTES 200u
+
+/* Where the parts of a block stand: refusals as tessarquin_open, 13 if answer_len is below TESSARQUIN_LAYOUT_BYTES. */
+uint32_t tessarquin_layout(const uint8_t *block, size_t block_len,
+                           uint8_t *answer, size_t answer_len);
+
+/* ---- texts */
+
+/* The numbers that tessarquin_user_text answers. */
+enum tessarquin_text_number {
+    TESSARQUIN_TEXT_START, /* where the text starts in the block */
+    TESSARQUIN_TEXT_LENGTH /* how many bytes it has, or 0 where there is none */
+};
+#define TESSARQUIN_TEXT_BYTES 16u
+
+/* Where the user text stands: refusals as tessarquin_open, 13 if answer_len is below TESSARQUIN_TEXT_BYTES. */
+uint32_t tessarquin_user_text(const uint8_t *block, size_t block_len,
+                              uint8_t *answer, size_t answer_len);
+
+/* The numbers that tessarquin_label answers. */
+enum tessarquin_label_number {
+    TESSARQUIN_LABEL_FROM,  /* 0 where the label stands in the block, 1 where it is the fallback */
+    TESSARQUIN_LABEL_START, /* where it starts in the block; in the fallback at 0 */
+    TESSARQUIN_LABEL_LENGTH /* how many bytes it has */
+};
+#define TESSARQUIN_LABEL_BYTES 24u
+
+/*
+ * Where the label stands: refusals as tessarquin_open, 13 if answer_len is below TESSARQUIN_LABEL_BYTES.
+ * It is TRACE_LABEL up to its first zero byte, or all 16 bytes; where that is empty, the whole of fallback, a name that
+ * the caller has for the block.
+ */
+uint32_t tessarquin_label(const uint8_t *block, size_t block_len,
+                          const uint8_t *fallback, size_t fallback_len,
+                          uint8_t *answer, size_t answer_len);
+
+/* ---- points */
+
+/* The doubles that tessarquin_point answers. */
+enum tessarquin_point_number {
+    TESSARQUIN_POINT_VALUE, /* in the unit VERTUNIT (volts, mostly): VERTICAL_GAIN times the sample less VERTICAL_OFFSET */
+    TESSARQUIN_POINT_TIME   /* in the unit HORUNIT (seconds, mostly), from the trigger */
+};
+#define TESSARQUIN_POINT_BYTES 16u
+
 /*
  * Point `point`, from 0 to M-1, of segment `segment`, from 1 to g, of array 1 or 2: refusals 1 to 8, 20,
- * 9 to 11, then 13 if answer_len is below TESSARQUIN_POINT_BYTES.
- *
- * The answer is two doubles: the value in the unit VERTUNIT (volts, mostly), VERTICAL_GAIN times the sample less
- * VERTICAL_OFFSET; and the time in the unit HORUNIT (seconds, mostly) from the trigger. Each is rounded once.
+ * 9 to 11, then 13 if answer_len is below TESSARQUIN_POINT_BYTES. The value and the time are each rounded once.
  *
  * Each call judges the whole block again, with the trigger times of all its segments. So whoever asks many points of a
  * block with many segments cuts the segment out first, in the order that tessarquin_open answers, and asks segment 1
@@ -112,11 +217,25 @@ uint32_t tessarquin_point(const uint8_t *block, size_t block_len,
  * The values of all M points of a segment: refusals 1 to 8, 20, 9 and 10, then 13 if answer_len is below M times
  * TESSARQUIN_VALUE_BYTES.
  *
- * The answer is M doubles, each the value that tessarquin_point answers, bit for bit.
+ * The answer is M doubles, each the value that tessarquin_point answers, bit for bit. tessarquin_doubles reads them.
  */
 uint32_t tessarquin_fill(const uint8_t *block, size_t block_len,
                          uint32_t array, uint32_t segment,
                          uint8_t *answer, size_t answer_len);
+#define TESSARQUIN_VALUE_BYTES 8u
+
+/* ---- cuts */
+
+/* The numbers that tessarquin_cut answers. */
+enum tessarquin_cut_number {
+    TESSARQUIN_CUT_COUNT, /* c, the points kept of each segment */
+    TESSARQUIN_CUT_LENGTH /* the bytes written to out */
+};
+#define TESSARQUIN_CUT_BYTES 16u
+
+/* A cut's payload is never longer than its block's, and its header is always "#9" and nine digits. So this many bytes
+   more than the block has are room for any cut of it. */
+#define TESSARQUIN_CUT_MORE 6u
 
 /*
  * Cuts a block by the numbers of WAVEFORM_SETUP: refusals 1 to 8, 20, 9 to 12, then 13 if out or answer is too
@@ -126,11 +245,10 @@ uint32_t tessarquin_fill(const uint8_t *block, size_t block_len,
  *     np     and at most np of them; 0 is no limit
  *     fp     beginning with point fp, from 0 to M-1
  *     sn     of segment sn alone; 0 is all segments
- *     order  the byte order of the block written: 0 high byte first, 1 low byte first
+ *     order  the byte order of the block written: TESSARQUIN_HIFIRST or TESSARQUIN_LOFIRST
  *
  * The block goes to out, with the header "#9" and no new line; room of block_len + TESSARQUIN_CUT_MORE is always
- * enough. What is written obeys the rules: no call refuses it by 1 to 8 or 20. The answer is two numbers: c, the points
- * kept of each segment, and the bytes written to out.
+ * enough. What is written obeys the rules: no call refuses it by 1 to 8 or 20.
  * The kept points have their values and times bit for bit, and a cut of a cut is the one cut with sp the product,
  * fp = fp1 + sp1 * fp2, np the c of the second and sn that of the first, or of the second where the first is 0.
  */
@@ -138,6 +256,8 @@ uint32_t tessarquin_cut(const uint8_t *block, size_t block_len,
                         uint32_t sp, uint32_t np, uint32_t fp, uint32_t sn, uint32_t order,
                         uint8_t *out, size_t out_len,
                         uint8_t *answer, size_t answer_len);
+
+/* ---- answers and refusals, read */
 
 /* Number i of an answer. */
 static inline uint64_t tessarquin_number(const uint8_t *answer, size_t i)
@@ -156,29 +276,131 @@ static inline double tessarquin_double(const uint8_t *answer, size_t i)
     return x;
 }
 
-/* A refusal in words. */
+/* The first n doubles of an answer, to out. */
+static inline void tessarquin_doubles(const uint8_t *answer, size_t n, double *out)
+{
+    for (size_t i = 0; i < n; i++)
+        out[i] = tessarquin_double(answer, i);
+}
+
+/* A refusal in words: when it is given, and what the caller can do. */
 static inline const char *tessarquin_text(uint32_t refusal)
 {
-    static const char *const texts[] = {
-        "taken",
-        "it does not start with #, a digit d from 1 to 9, and d digits",
-        "the length in the header is not that of the data, or is out of range",
-        "it is not a WAVEDESC block of the template LECROY_2_3",
-        "COMM_ORDER or COMM_TYPE is neither of its two values",
-        "the lengths of the parts do not add up to the payload",
-        "the counts of points and segments do not fit the lengths of arrays and tables",
-        "FIRST_POINT or SPARSING_FACTOR is out of range",
-        "a gain, offset, interval or table entry is infinite or not a number",
-        "there is no such array, or no such byte order",
-        "there is no such segment",
-        "there is no such point in a segment",
-        "the block is thinned too much already for this step",
-        "a slice lent for the answer is too short",
-        "14 was never given and is not used",
-    };
-    if (refusal == TESSARQUIN_TIME)
-        return "a TRIGGER_TIME is less than the one before it";
-    return refusal < sizeof texts / sizeof *texts ? texts[refusal] : "no refusal has this number";
+    switch (refusal) {
+    case TESSARQUIN_OK:
+        return "accepted";
+#define TESSARQUIN_AS_TEXT(name, number, when, what) \
+    case number:                                     \
+        return when "; " what;
+    TESSARQUIN_REFUSALS(TESSARQUIN_AS_TEXT)
+#undef TESSARQUIN_AS_TEXT
+    default:
+        return "no refusal has this number";
+    }
+}
+
+/* ---- fields of an accepted block, read where they stand */
+
+/* Where the fields of the descriptor stand in the payload. */
+enum tessarquin_field {
+    TESSARQUIN_AT_DESCRIPTOR_NAME = 0,     /* text of 16 bytes */
+    TESSARQUIN_AT_TEMPLATE_NAME = 16,      /* text of 16 bytes */
+    TESSARQUIN_AT_COMM_TYPE = 32,          /* word */
+    TESSARQUIN_AT_COMM_ORDER = 34,         /* word */
+    TESSARQUIN_AT_LENGTHS = 36,            /* ten longs, which tessarquin_layout answers */
+    TESSARQUIN_AT_INSTRUMENT_NAME = 76,    /* text of 16 bytes */
+    TESSARQUIN_AT_INSTRUMENT_NUMBER = 92,  /* long */
+    TESSARQUIN_AT_TRACE_LABEL = 96,        /* text of 16 bytes, which tessarquin_label answers */
+    TESSARQUIN_AT_WAVE_ARRAY_COUNT = 116,  /* long */
+    TESSARQUIN_AT_PNTS_PER_SCREEN = 120,   /* long */
+    TESSARQUIN_AT_FIRST_VALID_PNT = 124,   /* long */
+    TESSARQUIN_AT_LAST_VALID_PNT = 128,    /* long */
+    TESSARQUIN_AT_FIRST_POINT = 132,       /* long, which tessarquin_layout answers */
+    TESSARQUIN_AT_SPARSING_FACTOR = 136,   /* long; likewise, 0 as 1 */
+    TESSARQUIN_AT_SEGMENT_INDEX = 140,     /* long; likewise */
+    TESSARQUIN_AT_SUBARRAY_COUNT = 144,    /* long; likewise */
+    TESSARQUIN_AT_SWEEPS_PER_ACQ = 148,    /* long */
+    TESSARQUIN_AT_POINTS_PER_PAIR = 152,   /* word */
+    TESSARQUIN_AT_PAIR_OFFSET = 154,       /* word */
+    TESSARQUIN_AT_VERTICAL_GAIN = 156,     /* float */
+    TESSARQUIN_AT_VERTICAL_OFFSET = 160,   /* float */
+    TESSARQUIN_AT_MAX_VALUE = 164,         /* float */
+    TESSARQUIN_AT_MIN_VALUE = 168,         /* float */
+    TESSARQUIN_AT_NOMINAL_BITS = 172,      /* word */
+    TESSARQUIN_AT_NOM_SUBARRAY_COUNT = 174, /* word */
+    TESSARQUIN_AT_HORIZ_INTERVAL = 176,    /* float */
+    TESSARQUIN_AT_HORIZ_OFFSET = 180,      /* double */
+    TESSARQUIN_AT_PIXEL_OFFSET = 188,      /* double */
+    TESSARQUIN_AT_VERTUNIT = 196,          /* text of 48 bytes */
+    TESSARQUIN_AT_HORUNIT = 244,           /* text of 48 bytes */
+    TESSARQUIN_AT_HORIZ_UNCERTAINTY = 292, /* float */
+    TESSARQUIN_AT_TRIGGER_SECONDS = 296,   /* double: TRIGGER_TIME, and single bytes that follow it */
+    TESSARQUIN_AT_TRIGGER_MINUTES = 304,   /* byte */
+    TESSARQUIN_AT_TRIGGER_HOURS = 305,     /* byte */
+    TESSARQUIN_AT_TRIGGER_DAYS = 306,      /* byte */
+    TESSARQUIN_AT_TRIGGER_MONTHS = 307,    /* byte */
+    TESSARQUIN_AT_TRIGGER_YEAR = 308,      /* word */
+    TESSARQUIN_AT_ACQ_DURATION = 312,      /* float */
+    TESSARQUIN_AT_RECORD_TYPE = 316,       /* word */
+    TESSARQUIN_AT_PROCESSING_DONE = 318,   /* word */
+    TESSARQUIN_AT_RIS_SWEEPS = 322,        /* word */
+    TESSARQUIN_AT_TIMEBASE = 324,          /* word */
+    TESSARQUIN_AT_VERT_COUPLING = 326,     /* word */
+    TESSARQUIN_AT_PROBE_ATT = 328,         /* float */
+    TESSARQUIN_AT_FIXED_VERT_GAIN = 332,   /* word */
+    TESSARQUIN_AT_BANDWIDTH_LIMIT = 334,   /* word */
+    TESSARQUIN_AT_VERTICAL_VERNIER = 336,  /* float */
+    TESSARQUIN_AT_ACQ_VERT_OFFSET = 340,   /* float */
+    TESSARQUIN_AT_WAVE_SOURCE = 344        /* word */
+};
+#define TESSARQUIN_NAME_BYTES 16u
+#define TESSARQUIN_UNIT_BYTES 48u
+
+/* The entry of a segment in TESSARQUIN_PART_TRIGTIME: the double TRIGGER_TIME, in seconds from the first trigger, and
+   behind it the double TRIGGER_OFFSET. */
+#define TESSARQUIN_TRIGTIME_BYTES 16u
+
+/* How many bytes of a text field come before its first zero byte, or `bytes`, all that it has, where there is none. */
+static inline size_t tessarquin_field_text(const uint8_t *field, size_t bytes)
+{
+    const void *zero = memchr(field, 0, bytes);
+    return zero ? (size_t)((const uint8_t *)zero - field) : bytes;
+}
+
+/* The bits of a number of so many bytes, in the block's order. */
+static inline uint64_t tessarquin_field_bits(const uint8_t *field, size_t bytes, uint64_t order)
+{
+    uint64_t bits = 0;
+    for (size_t i = 0; i < bytes; i++)
+        bits = bits << 8 | field[order == TESSARQUIN_HIFIRST ? i : bytes - 1 - i];
+    return bits;
+}
+
+/* A word or an enum; a long; a float; a double: each in the block's order, which tessarquin_open answers. */
+static inline int16_t tessarquin_field_word(const uint8_t *field, uint64_t order)
+{
+    return (int16_t)tessarquin_field_bits(field, 2, order);
+}
+
+static inline int32_t tessarquin_field_long(const uint8_t *field, uint64_t order)
+{
+    return (int32_t)tessarquin_field_bits(field, 4, order);
+}
+
+static inline float tessarquin_field_float(const uint8_t *field, uint64_t order)
+{
+    uint32_t bits = (uint32_t)tessarquin_field_bits(field, 4, order);
+    float x;
+    memcpy(&x, &bits, sizeof x);
+    return x;
+}
+
+static inline double tessarquin_field_double(const uint8_t *field, uint64_t order)
+{
+    uint64_t bits = tessarquin_field_bits(field, 8, order);
+    double x;
+    memcpy(&x, &bits, sizeof x);
+    return x;
 }
 
 #ifdef __cplusplus

@@ -1,5 +1,5 @@
 /*
- * Tests of the four calls, each with slices that end at a page that cannot be touched and have known bytes before
+ * Tests of the calls, each with slices that end at a page that cannot be touched and have known bytes before
  * them. Prints one line and ends with 0, or prints what differed and ends with 1.
  */
 #include "blocks.h"
@@ -80,7 +80,7 @@ static struct slice make(int order, uint32_t type, uint32_t g, uint32_t m, int t
 
 /* ---- the calls, with an answer of `room` bytes that is read back as numbers */
 
-static uint64_t answers[16];
+static uint64_t answers[TESSARQUIN_LAYOUT_BYTES / 8];
 
 static void take(struct slice answer, uint32_t refusal, size_t numbers)
 {
@@ -94,6 +94,31 @@ static uint32_t opens(struct slice block, size_t room)
     struct slice answer = lend(room);
     uint32_t refusal = tessarquin_open(block.bytes, block.length, answer.bytes, room);
     take(answer, refusal, 5);
+    return refusal;
+}
+
+static uint32_t layout(struct slice block, size_t room)
+{
+    struct slice answer = lend(room);
+    uint32_t refusal = tessarquin_layout(block.bytes, block.length, answer.bytes, room);
+    take(answer, refusal, 25);
+    return refusal;
+}
+
+static uint32_t user_text(struct slice block, size_t room)
+{
+    struct slice answer = lend(room);
+    uint32_t refusal = tessarquin_user_text(block.bytes, block.length, answer.bytes, room);
+    take(answer, refusal, 2);
+    return refusal;
+}
+
+static uint32_t label(struct slice block, size_t fallback_length, size_t room)
+{
+    struct slice fallback = lend(fallback_length), answer = lend(room);
+    uint32_t refusal = tessarquin_label(block.bytes, block.length, fallback.bytes, fallback_length, answer.bytes, room);
+    take(answer, refusal, 3);
+    give_back(fallback, 0);
     return refusal;
 }
 
@@ -136,6 +161,52 @@ static void test_example(void)
     check(answers[0] == 0x3FFC000000000000 && answers[1] == 0xBFE8000000000000, "point 1 has other bits");
     check(fill(b, 1, 1, 2, 16) == 0, "fill is refused");
     check(answers[0] == 0xBFFC000000000000 && answers[1] == 0x3FFC000000000000, "fill has other bits");
+    unmap(b);
+}
+
+/* A text of seven bytes, one trigger entry, 29 bytes of samples; F 4, S 6, SEGMENT_INDEX 9 and no SUBARRAY_COUNT. */
+static void test_parts(int order)
+{
+    now = order ? "the parts, low byte first" : "the parts, high byte first";
+    static const uint64_t numbers[5] = {HEADER, 4, 6, 9, 0}, lengths[10] = {346, 7, 0, 16, 0, 0, 29, 0, 0, 0};
+    struct slice b = make(order, 0, 1, 36, 1);
+    put(b.bytes, order, 40, 4, 7);
+    put(b.bytes, order, 60, 4, 29);
+    put(b.bytes, order, 116, 4, 29);
+    put(b.bytes, order, 132, 4, 4);
+    put(b.bytes, order, 136, 4, 6);
+    put(b.bytes, order, 140, 4, 9);
+    put(b.bytes, order, 144, 4, 0);
+    memset(b.bytes + HEADER + DESCRIPTOR_BYTES, 0, 7 + 16);
+    check(layout(b, 199) == TESSARQUIN_ROOM && layout(b, 0) == TESSARQUIN_ROOM && layout(b, 210) == 0, "layout");
+    check(memcmp(answers, numbers, sizeof numbers) == 0, "the start, F, S, SEGMENT_INDEX or SUBARRAY_COUNT is another");
+    uint64_t start = 0;
+    for (size_t i = 0; i < 10; i++) {
+        check(answers[TESSARQUIN_LAYOUT_LENGTHS + i] == lengths[i], "a part has another length");
+        check(answers[TESSARQUIN_LAYOUT_STARTS + i] == start, "a part starts elsewhere");
+        start += lengths[i];
+    }
+    check(user_text(b, 15) == TESSARQUIN_ROOM && user_text(b, 16) == 0, "user text");
+    check(answers[TESSARQUIN_TEXT_START] == HEADER + 346 && answers[TESSARQUIN_TEXT_LENGTH] == 7, "the text stands elsewhere");
+    unmap(b);
+}
+
+static void test_labels(void)
+{
+    now = "labels";
+    struct slice b = make(0, 1, 1, 4, 0);
+    check(user_text(b, 24) == 0 && answers[TESSARQUIN_TEXT_START] == HEADER + 346 && answers[TESSARQUIN_TEXT_LENGTH] == 0, "no user text");
+    for (uint64_t length = 0; length <= 16; length++) {
+        memset(b.bytes + HEADER + 96, 0xFF, 16);
+        if (length < 16)
+            b.bytes[HEADER + 96 + length] = 0;
+        check(label(b, 5, 23) == TESSARQUIN_ROOM && label(b, 5, 24) == 0, "label");
+        int own = length > 0;
+        check(answers[TESSARQUIN_LABEL_FROM] == !own && answers[TESSARQUIN_LABEL_START] == (own ? HEADER + 96 : 0), "it stands elsewhere");
+        check(answers[TESSARQUIN_LABEL_LENGTH] == (own ? length : 5), "it has another length");
+    }
+    memset(b.bytes + HEADER + 96, 0, 16);
+    check(label(b, 0, 30) == 0 && answers[TESSARQUIN_LABEL_FROM] == 1 && answers[TESSARQUIN_LABEL_LENGTH] == 0, "an empty fallback");
     unmap(b);
 }
 
@@ -213,6 +284,8 @@ static void test_headers(void)
         memcpy(b.bytes, header, start);
         memcpy(b.bytes + start, nine.bytes + HEADER, payload);
         check(opens(b, 40) == 0 && answers[0] == 2 && answers[1] == 5 && answers[2] == 1 && answers[3] == 0 && answers[4] == 1, "open");
+        check(layout(b, 200) == 0 && answers[TESSARQUIN_LAYOUT_START] == start && answers[TESSARQUIN_LAYOUT_STARTS] == 0, "layout");
+        check(user_text(b, 16) == 0 && answers[TESSARQUIN_TEXT_START] == start + 346, "user text");
         for (uint32_t k = 0; k < 5; k++) {
             check(point(nine, 1, 2, k, 16) == 0, "a point is refused");
             uint64_t value = answers[0], time = answers[1];
@@ -280,6 +353,7 @@ static void test_refusals(void)
         check(refusal == damage[i].refusal, "open gives another number");
         check(point(b, 3, 9, 9, 0) == damage[i].refusal, "point gives another number");
         check(fill(b, 3, 9, 0, 0) == damage[i].refusal, "fill gives another number");
+        check(layout(b, 0) == damage[i].refusal && user_text(b, 0) == damage[i].refusal && label(b, 2, 0) == damage[i].refusal, "a place gives another number");
         unmap(b);
     }
     struct slice b = make(0, 1, 2, 3, 0);
@@ -294,21 +368,13 @@ static void test_refusals(void)
     unmap(b);
 }
 
-static void test_texts(void)
-{
-    now = "the texts of refusals";
-    for (uint32_t n = 0; n <= 14; n++)
-        check(*tessarquin_text(n) && (n == 0 || strcmp(tessarquin_text(n), tessarquin_text(n - 1)) != 0), "two are the same");
-    check(strcmp(tessarquin_text(14), "14 was never given and is not used") == 0, "14 says something else");
-    check(strcmp(tessarquin_text(TESSARQUIN_TIME), "a TRIGGER_TIME is less than the one before it") == 0, "20 says something else");
-    for (uint32_t n = 15; n <= 21; n++)
-        check(n == TESSARQUIN_TIME || strcmp(tessarquin_text(n), tessarquin_text(UINT32_MAX)) == 0, "no number, no text of its own");
-}
-
 int main(void)
 {
     test_example();
     test_short_slices();
+    test_parts(0);
+    test_parts(1);
+    test_labels();
     test_cut(0);
     test_cut(1);
     test_behind_names();
@@ -316,7 +382,6 @@ int main(void)
     test_times(0);
     test_times(1);
     test_refusals();
-    test_texts();
     printf("calls: %u checks held\n", checked);
     return 0;
 }

@@ -1,0 +1,79 @@
+/* The block in a file, and what the library says of it: every number of an opened block comes from a call. */
+#include "host.h"
+#include "tessarquin.h"
+
+/* One byte more than the longest block with the longest words: enough to see that a file is too long. */
+#define READ_MOST (TESSARQUIN_BLOCK_MOST + WORDS_MOST + 1u)
+
+/* Where the # is; 0 where none is found, so that the whole is refused. */
+static size_t words_before(struct file file)
+{
+    const uint8_t *sign = memchr(file.bytes, '#', file.length < WORDS_MOST ? file.length : WORDS_MOST);
+    return sign ? (size_t)(sign - file.bytes) : 0;
+}
+
+struct block read_block(const char *name)
+{
+    struct file file = read_file(name, READ_MOST);
+    if (file.length == READ_MOST)
+        fail(REFUSED, "%s has more than %s bytes, and no block has more than %s", file.name, grouped(READ_MOST - 1), grouped(TESSARQUIN_BLOCK_MOST));
+    size_t before = words_before(file);
+    return (struct block){file, file.bytes + before, file.length - before};
+}
+
+/* Part `part` of the payload. */
+static struct part part_of(const uint8_t *payload, const uint8_t *layout, size_t part)
+{
+    return (struct part){payload + tessarquin_number(layout, TESSARQUIN_LAYOUT_STARTS + part),
+                         (size_t)tessarquin_number(layout, TESSARQUIN_LAYOUT_LENGTHS + part)};
+}
+
+static struct part user_text(struct block b)
+{
+    uint8_t answer[TESSARQUIN_TEXT_BYTES];
+    uint32_t refusal = tessarquin_user_text(b.bytes, b.length, answer, sizeof answer);
+    if (refusal)
+        refuse_block(b, refusal);
+    return (struct part){b.bytes + tessarquin_number(answer, TESSARQUIN_TEXT_START),
+                         (size_t)tessarquin_number(answer, TESSARQUIN_TEXT_LENGTH)};
+}
+
+struct opened open_block(struct block b)
+{
+    uint8_t open[TESSARQUIN_OPEN_BYTES], layout[TESSARQUIN_LAYOUT_BYTES];
+    uint32_t refusal = tessarquin_open(b.bytes, b.length, open, sizeof open);
+    if (!refusal)
+        refusal = tessarquin_layout(b.bytes, b.length, layout, sizeof layout);
+    if (refusal)
+        refuse_block(b, refusal);
+    const uint8_t *payload = b.bytes + tessarquin_number(layout, TESSARQUIN_LAYOUT_START);
+    return (struct opened){
+        .block = b,
+        .segments = (uint32_t)tessarquin_number(open, TESSARQUIN_OPEN_SEGMENTS),
+        .points = (uint32_t)tessarquin_number(open, TESSARQUIN_OPEN_POINTS),
+        .arrays = (uint32_t)tessarquin_number(open, TESSARQUIN_OPEN_ARRAYS),
+        .order = (uint32_t)tessarquin_number(open, TESSARQUIN_OPEN_ORDER),
+        .type = (uint32_t)tessarquin_number(open, TESSARQUIN_OPEN_TYPE),
+        .first = (uint32_t)tessarquin_number(layout, TESSARQUIN_LAYOUT_FIRST_POINT),
+        .sparsing = (uint32_t)tessarquin_number(layout, TESSARQUIN_LAYOUT_SPARSING),
+        .index = (uint32_t)tessarquin_number(layout, TESSARQUIN_LAYOUT_SEGMENT_INDEX),
+        .payload = payload,
+        .trigtime = part_of(payload, layout, TESSARQUIN_PART_TRIGTIME),
+        .ristime = part_of(payload, layout, TESSARQUIN_PART_RISTIME),
+        .text = user_text(b)};
+}
+
+struct block cut_out(const struct opened *o, uint32_t n, uint8_t *out, size_t room)
+{
+    uint8_t answer[TESSARQUIN_CUT_BYTES];
+    struct block b = o->block;
+    uint32_t refusal = tessarquin_cut(b.bytes, b.length, 1, 0, 0, n, o->order, out, room, answer, sizeof answer);
+    if (refusal)
+        refuse_question("the segment", o, (struct asked){.segment = n}, refusal);
+    return (struct block){b.file, out, (size_t)tessarquin_number(answer, TESSARQUIN_CUT_LENGTH)};
+}
+
+double trigger_time(const struct opened *o, uint32_t n)
+{
+    return tessarquin_field_double(o->trigtime.bytes + TESSARQUIN_TRIGTIME_BYTES * (size_t)(n - 1), o->order);
+}

@@ -1,0 +1,292 @@
+/* trace show: what the descriptor says, in the order in which an engineer looks for it, and what the arrays hold. */
+#include "host.h"
+#include "tessarquin.h"
+
+#include <math.h>
+#include <stdlib.h>
+
+/* ---- fields of an opened block */
+
+static int word_at(const struct opened *o, size_t at)
+{
+    return tessarquin_field_word(o->payload + at, o->order);
+}
+
+static int32_t long_at(const struct opened *o, size_t at)
+{
+    return tessarquin_field_long(o->payload + at, o->order);
+}
+
+static float float_at(const struct opened *o, size_t at)
+{
+    return tessarquin_field_float(o->payload + at, o->order);
+}
+
+static double double_at(const struct opened *o, size_t at)
+{
+    return tessarquin_field_double(o->payload + at, o->order);
+}
+
+static struct part text_at(const struct opened *o, size_t at, size_t most)
+{
+    return (struct part){o->payload + at, tessarquin_field_text(o->payload + at, most)};
+}
+
+/* ---- lines */
+
+static void print_name(const char *name)
+{
+    printf("%-17s", name);
+}
+
+static void print_text_or_none(struct part text)
+{
+    if (text.length == 0)
+        fputs("(none)", stdout);
+    else
+        write_text(stdout, text.bytes, text.length);
+}
+
+static void print_text(const char *name, struct part text)
+{
+    print_name(name);
+    print_text_or_none(text);
+    putchar('\n');
+}
+
+/* A blank and the unit, where there is one. */
+static void print_unit(struct part unit)
+{
+    if (unit.length == 0)
+        return;
+    putchar(' ');
+    write_text(stdout, unit.bytes, unit.length);
+}
+
+/* A float in the fewest digits, from six on, that are read back as the same float. */
+static void print_float(float x)
+{
+    char room[DECIMAL_MOST];
+    for (int digits = 6; digits <= 9; digits++) {
+        snprintf(room, sizeof room, "%.*g", digits, x);
+        if (strtof(room, NULL) == x)
+            break;
+    }
+    fputs(room, stdout);
+}
+
+static void print_float_in(const char *name, float x, struct part unit)
+{
+    print_name(name);
+    print_float(x);
+    print_unit(unit);
+    putchar('\n');
+}
+
+/* Numbers that were worked out have the six digits that an overview needs. */
+static void print_range(double from, double to, struct part unit)
+{
+    printf("%.6g to %.6g", from, to);
+    print_unit(unit);
+}
+
+/* ---- who, when, what */
+
+static void show_label(const struct opened *o)
+{
+    uint8_t answer[TESSARQUIN_LABEL_BYTES], none[1];
+    uint32_t refusal = tessarquin_label(o->block.bytes, o->block.length, none, 0, answer, sizeof answer);
+    if (refusal)
+        refuse_block(o->block, refusal);
+    int own = tessarquin_number(answer, TESSARQUIN_LABEL_FROM) == 0;
+    print_text("label", (struct part){(own ? o->block.bytes : none) + tessarquin_number(answer, TESSARQUIN_LABEL_START),
+                                      (size_t)tessarquin_number(answer, TESSARQUIN_LABEL_LENGTH)});
+}
+
+static void show_instrument(const struct opened *o)
+{
+    int32_t number = long_at(o, TESSARQUIN_AT_INSTRUMENT_NUMBER);
+    print_name("instrument");
+    print_text_or_none(text_at(o, TESSARQUIN_AT_INSTRUMENT_NAME, TESSARQUIN_NAME_BYTES));
+    if (number != 0)
+        printf(", number %ld", (long)number);
+    putchar('\n');
+}
+
+/* The date and the time of day as the instrument's clock had them; its numbers are carried, not judged. */
+static void show_triggered(const struct opened *o)
+{
+    const uint8_t *at = o->payload;
+    int year = word_at(o, TESSARQUIN_AT_TRIGGER_YEAR), month = at[TESSARQUIN_AT_TRIGGER_MONTHS], day = at[TESSARQUIN_AT_TRIGGER_DAYS];
+    int hour = at[TESSARQUIN_AT_TRIGGER_HOURS], minute = at[TESSARQUIN_AT_TRIGGER_MINUTES];
+    double second = double_at(o, TESSARQUIN_AT_TRIGGER_SECONDS);
+    print_name("triggered");
+    if (year == 0 && month == 0 && day == 0 && hour == 0 && minute == 0 && second == 0)
+        puts("(none)");
+    else if (second >= 0 && second < 60)
+        printf("%04d-%02d-%02d %02d:%02d:%012.9f\n", year, month, day, hour, minute, second);
+    else
+        printf("%04d-%02d-%02d %02d:%02d, seconds %g\n", year, month, day, hour, minute, second);
+}
+
+static void show_record(const struct opened *o)
+{
+    print_name("record type");
+    puts(record_type(word_at(o, TESSARQUIN_AT_RECORD_TYPE)));
+    print_name("processing");
+    puts(processing(word_at(o, TESSARQUIN_AT_PROCESSING_DONE)));
+    print_name("source");
+    puts(wave_source(word_at(o, TESSARQUIN_AT_WAVE_SOURCE)));
+}
+
+/* ---- the vertical side */
+
+static void show_vertical(const struct opened *o, struct part unit)
+{
+    float gain = float_at(o, TESSARQUIN_AT_VERTICAL_GAIN), offset = float_at(o, TESSARQUIN_AT_VERTICAL_OFFSET);
+    int low = o->type == TESSARQUIN_WORD ? INT16_MIN : INT8_MIN, high = o->type == TESSARQUIN_WORD ? INT16_MAX : INT8_MAX;
+    double one = (double)gain * low - (double)offset, other = (double)gain * high - (double)offset;
+    print_text("values in", unit);
+    print_float_in("gain", gain, unit);
+    print_float_in("offset", offset, unit);
+    print_name("full range");
+    print_range(one < other ? one : other, one < other ? other : one, unit);
+    printf(" (samples %d to %d)\n", low, high);
+    print_float_in("probe", float_at(o, TESSARQUIN_AT_PROBE_ATT), (struct part){NULL, 0});
+    print_name("coupling");
+    puts(coupling(word_at(o, TESSARQUIN_AT_VERT_COUPLING)));
+    print_name("bandwidth limit");
+    puts(bandwidth_limit(word_at(o, TESSARQUIN_AT_BANDWIDTH_LIMIT)));
+}
+
+/* ---- the horizontal side */
+
+/* The time of a point of segment 1. */
+static double time_of(const struct opened *o, uint32_t k)
+{
+    uint8_t answer[TESSARQUIN_POINT_BYTES];
+    uint32_t refusal = tessarquin_point(o->block.bytes, o->block.length, 1, 1, k, answer, sizeof answer);
+    if (refusal)
+        refuse_question("the point", o, (struct asked){1, 1, k, 0}, refusal);
+    return tessarquin_double(answer, TESSARQUIN_POINT_TIME);
+}
+
+static void show_time_rule(const struct opened *o, struct part unit)
+{
+    print_name("times by");
+    if (o->trigtime.length > 0)
+        printf("trigger times, one for each segment, %.9g s to %.9g s after the first trigger\n", trigger_time(o, 1), trigger_time(o, o->segments));
+    else if (o->ristime.length > 0)
+        printf("RIS, offsets of %s sweeps\n", grouped((int64_t)o->ristime.length / 8));
+    else {
+        printf("horizontal offset, %.9g", double_at(o, TESSARQUIN_AT_HORIZ_OFFSET));
+        print_unit(unit);
+        putchar('\n');
+    }
+}
+
+static void show_horizontal(const struct opened *o, struct part unit)
+{
+    float interval = float_at(o, TESSARQUIN_AT_HORIZ_INTERVAL);
+    double between = (double)interval * o->sparsing;
+    print_text("times in", unit);
+    print_name("interval");
+    print_float(interval);
+    print_unit(unit);
+    if (o->sparsing > 1) {
+        printf(", between points %.6g", between);
+        print_unit(unit);
+    }
+    putchar('\n');
+    print_name("span");
+    printf("%.6g", between * (o->points - 1));
+    print_unit(unit);
+    fputs(o->segments > 1 ? ", segment 1 from " : ", from ", stdout);
+    print_range(time_of(o, 0), time_of(o, o->points - 1), unit);
+    putchar('\n');
+    print_name("rate");
+    if (between == 0)
+        fputs("(none)", stdout);
+    else {
+        printf("%.6g points per", 1 / between);
+        print_unit(unit.length ? unit : (struct part){(const uint8_t *)"unit", 4});
+    }
+    putchar('\n');
+    show_time_rule(o, unit);
+    printf("%-17s%s\n%-17s%s\n", "first point F", grouped(o->first), "sparsing S", grouped(o->sparsing));
+}
+
+/* ---- what is in the arrays */
+
+struct place {
+    double value;
+    uint32_t segment, point;
+};
+
+static void print_place(const struct opened *o, const char *name, struct place p, struct part unit)
+{
+    printf("%s %.6g", name, p.value);
+    print_unit(unit);
+    if (o->segments > 1)
+        printf(" (segment %s, point %s), ", grouped(p.segment), grouped(p.point));
+    else
+        printf(" (point %s), ", grouped(p.point));
+}
+
+static void show_array(const struct opened *o, uint32_t array, uint8_t *values, struct part unit)
+{
+    struct place least = {INFINITY, 0, 0}, greatest = {-INFINITY, 0, 0};
+    long double sum = 0;
+    for (uint32_t n = 1; n <= o->segments; n++) {
+        uint32_t refusal = tessarquin_fill(o->block.bytes, o->block.length, array, n, values, (size_t)o->points * TESSARQUIN_VALUE_BYTES);
+        if (refusal)
+            refuse_question("the segment", o, (struct asked){array, n, 0, 0}, refusal);
+        for (uint32_t k = 0; k < o->points; k++) {
+            double value = tessarquin_double(values, k);
+            sum += value;
+            if (value < least.value)
+                least = (struct place){value, n, k};
+            if (value > greatest.value)
+                greatest = (struct place){value, n, k};
+        }
+    }
+    printf("array %-11u", (unsigned)array);
+    print_place(o, "least", least, unit);
+    print_place(o, "greatest", greatest, unit);
+    printf("mean %.6g", (double)(sum / ((long double)o->points * o->segments)));
+    print_unit(unit);
+    putchar('\n');
+}
+
+static void show_arrays(const struct opened *o, struct part unit)
+{
+    printf("%-17s%s\n", "segments", grouped(o->segments));
+    printf("%-17s%s\n", "segment index", grouped(o->index));
+    printf("%-17s%s in each segment\n", "points", grouped(o->points));
+    printf("%-17s%s, %s byte first\n", "samples", o->type == TESSARQUIN_WORD ? "words" : "bytes", o->order == TESSARQUIN_LOFIRST ? "low" : "high");
+    /* The arrays of many segments take a while. */
+    fflush(stdout);
+    uint8_t *values = memory((size_t)o->points * TESSARQUIN_VALUE_BYTES);
+    for (uint32_t array = 1; array <= o->arrays; array++)
+        show_array(o, array, values, unit);
+    free(values);
+}
+
+void show(const char *name)
+{
+    struct opened o = open_block(read_block(name));
+    struct part vertical = text_at(&o, TESSARQUIN_AT_VERTUNIT, TESSARQUIN_UNIT_BYTES);
+    struct part horizontal = text_at(&o, TESSARQUIN_AT_HORUNIT, TESSARQUIN_UNIT_BYTES);
+    struct part before = {o.block.file.bytes, (size_t)(o.block.bytes - o.block.file.bytes)};
+    printf("%-17s%s bytes\n", "block", grouped((int64_t)o.block.length));
+    if (before.length > 0)
+        print_text("words before it", before);
+    show_label(&o);
+    show_instrument(&o);
+    print_text("user text", o.text);
+    show_triggered(&o);
+    show_record(&o);
+    show_vertical(&o, vertical);
+    show_horizontal(&o, horizontal);
+    show_arrays(&o, vertical);
+}

@@ -1,0 +1,58 @@
+# trace points: every point with its own segment's time, in plain lines and as a table.
+
+# points_of ORDER TYPE SEGMENTS POINTS: what `trace points` prints of that block of `made`
+points_of() {
+    awk -v order="$1" -v type="$2" -v segments="$3" -v points="$4" '
+        function byte(i) { return (253 + 7 * i) % 256 }
+        function sample(i,  n) {
+            n = type == 0 ? byte(i) : order == 0 ? 256 * byte(2 * i) + byte(2 * i + 1) : byte(2 * i) + 256 * byte(2 * i + 1)
+            return type == 0 ? (n > 127 ? n - 256 : n) : (n > 32767 ? n - 65536 : n)
+        }
+        BEGIN {
+            for (n = 1; n <= segments; n++)
+                for (k = 0; k < points; k++)
+                    printf "%d %d %.17g %.17g\n", n, k, 0.25 * k + n - 1, 0.5 * sample((n - 1) * points + k) - 0.25
+        }'
+}
+
+for shape in '0 0' '0 1' '1 0' '1 1'; do
+    read -r order type <<<"$shape"
+    $run "$programs/made" "$order" "$type" 2000 50 1 >"$folder/sequence"
+    points_of "$order" "$type" 2000 50 >"$folder/expected"
+    FAULT=count expect 0 "$(head -n 1 "$folder/expected")" points "$folder/sequence"
+    same "$folder/out" "$folder/expected" "a sequence, order $order, type $type: other points"
+    [ "$(cat "$folder/err")" = '1 questions' ] || wrong "a sequence: $(cat "$folder/err") of the whole block"
+    expect 0 "$(grep -m 1 '^777 ' "$folder/expected")" points "$folder/sequence" 1 777
+    grep '^777 ' "$folder/expected" >"$folder/one_segment"
+    same "$folder/out" "$folder/one_segment" 'one segment of a sequence: other points'
+    # the table: the same numbers, and the trigger time of each segment
+    expect 0 'segment,point,time,value,trigger time (s)' points --csv "$folder/sequence"
+    sed 's/ /,/g; s/^\([0-9]*\),.*/&,\100/' "$folder/expected" | cmp -s - <(tail -n +2 "$folder/out") || wrong "a sequence, order $order, type $type: another table"
+done
+
+got=0
+"$trace" points "$folder/sequence" >/dev/full 2>"$folder/err" || got=$?
+[ "$got $(cat "$folder/err")" = '3 trace: standard output: No space left on device' ] || wrong "points to a full disk: $got, $(cat "$folder/err")"
+
+# digits: by default those that read the same number back, else as many as asked; the options stand anywhere
+expect 0 '1 0 -8e-07 400.0000059604645' points "$sample" 1 1
+expect 0 '1 0 -8e-07 400' points --digits 6 "$sample" 1 1
+expect 0 '1 0 -8e-07 4e+02' points "$sample" --digits 1 1 1
+expect 0 '1 0 -7.9999999999999996e-07 400.00000596046448' points "$sample" 1 1 --digits 17
+expect 0 'segment,point,time (S),value (V),trigger time (s)' points "$sample" --csv --digits 3
+[ "$(sed -n 19p "$folder/out")" = '2,1,-6.01e-07,401,0.0125' ] || wrong "three digits: $(sed -n 19p "$folder/out")"
+expect 0 'segment,point,time,value' points --csv "$example"
+for n in 0 18 4294967295; do
+    expect 2 'trace: --digits is from 1 to 17; trace --help tells how it is called' points --digits "$n" "$sample"
+done
+expect 2 'trace: six is not a number from 0 to 4294967295' points --digits six "$sample"
+expect 2 'trace: --digits is from 1 to 17; trace --help tells how it is called' points "$sample" --digits
+expect 2 'trace: --cvs is not known; trace --help tells how it is called' points --cvs "$sample"
+expect 2 'trace: points takes a FILE; trace --help tells how it is called' points --csv
+expect 2 'trace: points takes FILE, ARRAY and SEGMENT; trace --help tells how it is called' points "$sample" 1 1 1
+
+# units with a comma or a quote have their cell in quotes; control bytes are shown by their numbers
+patched "$sample" 196 'V, "peak"\0' 244 '\316\274s\n\0'
+expect 0 'segment,point,time (μs\x0A),"value (V, ""peak"")",trigger time (s)' points --csv "$folder/damaged"
+patched "$sample" 196 '"\0'
+expect 0 'segment,point,time (S),"value ("")",trigger time (s)' points --csv "$folder/damaged"
