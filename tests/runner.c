@@ -23,7 +23,7 @@
 #include "measured.h"
 #include "tessarquin.h"
 
-enum kind { PROBE, OPEN, POINT, FILL, CUT, FLOATS, WALK, STEP, USER_TEXT, LABEL };
+enum kind { PROBE, OPEN, POINT, FILL, CUT, FLOATS, WALK, STEP, USER_TEXT, LABEL, LAYOUT, TEXT_PLACE, LABEL_PLACE };
 enum { BLOCK, FALLBACK, OUT, ANSWER, SLICES };
 
 /* Memory that cannot be touched comes in pages; no machine has larger ones than this. */
@@ -154,6 +154,12 @@ static uint32_t call(enum kind kind, const uint32_t n[5], const struct slice len
         return compared_user_text(block, block_len, answer, answer_len);
     case LABEL:
         return compared_label(block, block_len, fallback, fallback_len, answer, answer_len);
+    case LAYOUT:
+        return tessarquin_layout(block, block_len, answer, answer_len);
+    case TEXT_PLACE:
+        return tessarquin_user_text(block, block_len, answer, answer_len);
+    case LABEL_PLACE:
+        return tessarquin_label(block, block_len, fallback, fallback_len, answer, answer_len);
     }
     fprintf(stderr, "no such call: %d\n", kind);
     exit(2);

@@ -8,7 +8,8 @@ use crate::law::descriptor::*;
 use crate::law::numbers::{read_signed, store};
 use crate::law::rules::{open, Refusal};
 use crate::pairs;
-use crate::questions::{request, Extent};
+use crate::places;
+use crate::questions::{place_calls, request, Extent};
 use crate::random::Random;
 use crate::request::Call;
 use crate::results;
@@ -49,6 +50,7 @@ pub fn run(checker: &mut Checker, seed: u64, case: u64) -> (String, Result<(), D
             ("damage".into(), ask_any(checker, &block, random))
         }
         _ if case % 32 == 31 => ("two headers".into(), two_headers(checker, random)),
+        _ if case % 32 == 23 => ("parts and texts".into(), parts_and_texts(checker, random)),
         _ => ("cut of a cut".into(), cut_of_cut(checker, random)),
     }
 }
@@ -70,6 +72,12 @@ pub fn cut_opened(checker: &mut Checker, random: &mut Random) -> Result<(), Diff
 pub fn two_headers(checker: &mut Checker, random: &mut Random) -> Result<(), Difference> {
     let draft = right_draft(random);
     headers::check(checker, &draft, random)
+}
+
+/// The parts and texts of a right block, where the calls say that they stand.
+pub fn parts_and_texts(checker: &mut Checker, random: &mut Random) -> Result<(), Difference> {
+    let draft = right_draft(random);
+    places::check(checker, &draft, random)
 }
 
 fn take_turn(edges: &[&'static Edge], turn: u64) -> &'static Edge {
@@ -165,6 +173,7 @@ fn ask_much(checker: &mut Checker, block: &[u8], random: &mut Random) -> Result<
     calls.extend((0..2).map(|_| extent.fill(random)));
     calls.extend((0..2).map(|_| extent.cut(random)));
     calls.extend((0..2).map(|_| extent.right_cut(random)));
+    calls.extend(place_calls(random));
     calls.extend(extent.test_calls(random));
     ask(checker, block, random, &calls)
 }

@@ -1,6 +1,6 @@
 //! The comparison: every reply against that of the independent implementation, byte for byte.
 
-use crate::request::{Calls, Core, Reply, Request};
+use crate::request::{Call, Calls, Core, Reply, Request};
 use std::collections::BTreeMap;
 use std::fmt::Display;
 
@@ -16,12 +16,25 @@ pub struct Tally {
     pub seen: BTreeMap<u32, u64>,
     /// Blocks that a cut wrote and that were opened.
     pub cut_blocks: u64,
+    /// Blocks whose parts and texts stand where the calls say.
+    pub placed_blocks: u64,
 }
 
 impl Tally {
-    /// The refusal numbers that never came.
-    pub fn unseen(&self) -> Vec<u32> {
-        REFUSALS.into_iter().filter(|number| !self.seen.contains_key(number)).collect()
+    /// What a run must have and this one has not, in words.
+    pub fn missing(&self) -> Option<String> {
+        let came = |number: &u32| self.seen.contains_key(number);
+        let unseen: Vec<u32> = REFUSALS.into_iter().filter(|number| !came(number)).collect();
+        if !unseen.is_empty() {
+            return Some(format!("refusals {unseen:?} were never seen"));
+        }
+        if self.calls.len() < Call::NAMES {
+            return Some(format!("{:?} alone were asked", self.calls));
+        }
+        if self.cut_blocks == 0 {
+            return Some("no cut block was opened".into());
+        }
+        (self.placed_blocks == 0).then(|| "no block's parts and texts were looked for".into())
     }
 
     /// How many calls were made.

@@ -1,5 +1,7 @@
 //! The document's checked examples and the requests', and the descriptor's table held against its
-//! own words.
+//! own words. places.rs has what the calls answer that tell where things stand.
+
+mod places;
 
 use crate::draft::Draft;
 use crate::law::calls;
@@ -53,6 +55,15 @@ const LISTED: [[u64; 2]; 2] = [
     [0xBFFC_0000_0000_0000, 0xBFF0_0000_0000_0000],
     [0x3FFC_0000_0000_0000, 0xBFE8_0000_0000_0000],
 ];
+
+/// The block of two segments: M 5, WORD, TRIGTIME 32 bytes.
+fn segmented(order: Order) -> Draft {
+    let mut draft = draft(order, &[0; 10], 2);
+    draft.trigtime = vec![0; 32];
+    draft.set_long(SUBARRAY_COUNT, 2);
+    draft.fit_lengths();
+    draft
+}
 
 fn numbers(answer: &[u8]) -> Vec<u64> {
     answer.chunks(8).map(|bytes| read(bytes, Order::HiFirst)).collect()
@@ -138,12 +149,8 @@ fn first_point_below_m() {
 #[test]
 fn two_segments() {
     for order in BOTH {
-        let mut segmented = draft(order, &[0; 10], 2);
-        segmented.trigtime = vec![0; 32];
-        segmented.set_long(SUBARRAY_COUNT, 2);
-        segmented.fit_lengths();
-        assert_eq!(segmented.payload_len(), 398);
-        let block = segmented.bytes();
+        assert_eq!(segmented(order).payload_len(), 398);
+        let block = segmented(order).bytes();
         assert_eq!(block.len(), 409);
         let (mut out, mut answer) = ([0; 379], [0; 16]);
         assert_eq!(calls::cut(&block, 2, 0, 0, 2, 0, &mut out, &mut answer), 0);

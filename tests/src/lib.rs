@@ -9,6 +9,7 @@ pub mod floats;
 pub mod headers;
 pub mod law;
 pub mod pairs;
+pub mod places;
 pub mod questions;
 pub mod random;
 pub mod request;

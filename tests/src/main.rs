@@ -6,7 +6,7 @@ use std::time::{Duration, Instant};
 
 use tessarquin_tests::cases;
 use tessarquin_tests::compare::{counts, Checker, Difference};
-use tessarquin_tests::request::{Call, LAW};
+use tessarquin_tests::request::LAW;
 use tessarquin_tests::runner::Runner;
 
 const USAGE: &str = "usage: compare [--seed S] [--cases N] [--case K] -- RUNNER [ARGUMENT..]
@@ -87,20 +87,13 @@ fn run_all(options: &Options) -> Result<String, String> {
         }
     }
     let tally = checker.tally;
-    let unseen = tally.unseen();
-    if !unseen.is_empty() {
-        return Err(format!("{cases} cases are too few: refusals {unseen:?} were never seen"));
-    }
-    if tally.calls.len() < Call::NAMES {
-        return Err(format!("{cases} cases are too few: {:?} alone were asked", tally.calls));
-    }
-    let cut_blocks = tally.cut_blocks;
-    if cut_blocks == 0 {
-        return Err(format!("{cases} cases are too few: no cut block was opened"));
+    if let Some(missing) = tally.missing() {
+        return Err(format!("{cases} cases are too few: {missing}"));
     }
     let (calls, by_name, numbers) = (tally.all_calls(), counts(&tally.calls), counts(&tally.seen));
+    let (cut_blocks, placed_blocks) = (tally.cut_blocks, tally.placed_blocks);
     Ok(format!(
-        "{cases} cases, {calls} calls, no difference ({by_name}); {cut_blocks} cut blocks opened, none refused; numbers seen: {numbers}"
+        "{cases} cases, {calls} calls, no difference ({by_name}); {cut_blocks} cut blocks opened, none refused; {placed_blocks} blocks with parts and texts in their places; numbers seen: {numbers}"
     ))
 }
 

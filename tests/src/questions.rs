@@ -89,20 +89,18 @@ impl Extent {
         Call::Step { array, segment, k: random.pick(&[any, any, behind]) }
     }
 
-    fn label(&self, random: &mut Random) -> Call {
-        let any = random.below(40);
-        Call::Label { fallback: random.pick(&[0, 1, 15, 16, 17, any]) }
-    }
-
     /// Each C call once.
     pub fn c_calls(&self, random: &mut Random) -> Vec<Call> {
-        vec![Call::Open, self.point(random), self.fill(random), self.cut(random)]
+        let mut calls = vec![Call::Open, self.point(random), self.fill(random), self.cut(random)];
+        calls.extend(place_calls(random));
+        calls
     }
 
     /// Each test call once.
     pub fn test_calls(&self, random: &mut Random) -> Vec<Call> {
         let (floats, walk, step) = (self.floats(random), self.walk(random), self.step(random));
-        vec![floats, walk, step, Call::UserText, self.label(random)]
+        let label = Call::Label { fallback: fallback(random) };
+        vec![floats, walk, step, Call::UserText, label]
     }
 
     fn array(&self, random: &mut Random) -> u32 {
@@ -172,6 +170,17 @@ impl Extent {
     }
 }
 
+/// Each C call that answers where things stand.
+pub fn place_calls(random: &mut Random) -> [Call; 3] {
+    [Call::Layout, Call::TextPlace, Call::LabelPlace { fallback: fallback(random) }]
+}
+
+/// How long a fallback is: often as TRACE_LABEL or nearly so, sometimes beyond what a byte counts.
+fn fallback(random: &mut Random) -> usize {
+    let any = random.below(40);
+    random.pick(&[0, 1, 15, 16, 17, 300, any])
+}
+
 /// A request with room that is often just enough, sometimes one byte or one float short.
 pub fn request<'a>(random: &mut Random, call: Call, block: &'a [u8]) -> Request<'a> {
     let (out_need, answer_need) = need(call, block);
@@ -199,7 +208,7 @@ pub fn with_room<'a>(
     answer_room: usize,
 ) -> Request<'a> {
     let fallback = match call {
-        Call::Label { fallback } => random.bytes(fallback),
+        Call::Label { fallback } | Call::LabelPlace { fallback } => random.bytes(fallback),
         _ => vec![],
     };
     let mut lent = |room: usize| match call.takes_floats() {
@@ -233,6 +242,9 @@ fn need(call: Call, block: &[u8]) -> (usize, usize) {
             let reply = LAW.reply(&Request { call, block, fallback: vec![], out, answer });
             (if reply.number == 0 { reply.written().len() } else { 400 }, 16)
         }
+        Call::Layout => (0, 200),
+        Call::TextPlace => (0, 16),
+        Call::LabelPlace { .. } => (0, 24),
         Call::Floats { .. } => (0, 8 * Extent::of(block).points as usize),
         Call::Walk { .. } => {
             let points = Extent::of(block).points as usize;

@@ -10,20 +10,27 @@ pub enum Call {
     Point { array: u32, segment: u32, point: u32 },
     Fill { array: u32, segment: u32 },
     Cut { sp: u32, np: u32, fp: u32, sn: u32, order: u32 },
+    // Where the payload and its ten parts start, with the fields that say so.
+    Layout,
+    // Where the user text stands in the block.
+    TextPlace,
+    // Where the label stands, in the block or in a fallback of so many bytes.
+    LabelPlace { fallback: usize },
     // A fill of floats, in Rattle; they go to `answer`.
     Floats { array: u32, segment: u32 },
     // A walk until it is done: the values go to `out`, the times to `answer`.
     Walk { array: u32, segment: u32 },
     // The step of a walk after the first k.
     Step { array: u32, segment: u32, k: u32 },
+    // The user text itself.
     UserText,
-    // The label, with a fallback of so many bytes.
+    // The label itself, with a fallback of so many bytes.
     Label { fallback: usize },
 }
 
 impl Call {
     /// How many calls there are, by name.
-    pub const NAMES: usize = 9;
+    pub const NAMES: usize = 12;
 
     pub fn name(&self) -> &'static str {
         match self {
@@ -31,6 +38,9 @@ impl Call {
             Call::Point { .. } => "point",
             Call::Fill { .. } => "fill",
             Call::Cut { .. } => "cut",
+            Call::Layout => "layout",
+            Call::TextPlace => "place of user text",
+            Call::LabelPlace { .. } => "place of label",
             Call::Floats { .. } => "fill of floats",
             Call::Walk { .. } => "walk",
             Call::Step { .. } => "step",
@@ -54,7 +64,7 @@ impl fmt::Display for Call {
     fn fmt(&self, f: &mut fmt::Formatter) -> fmt::Result {
         write!(f, "{}", self.name())?;
         match self {
-            Call::Open | Call::UserText => Ok(()),
+            Call::Open | Call::Layout | Call::TextPlace | Call::UserText => Ok(()),
             Call::Point { array, segment, point } => {
                 write!(f, ": array {array}, segment {segment}, point {point}")
             }
@@ -67,13 +77,16 @@ impl fmt::Display for Call {
             Call::Step { array, segment, k } => {
                 write!(f, ": array {array}, segment {segment}, after {k}")
             }
-            Call::Label { fallback } => write!(f, ": fallback of {fallback}"),
+            Call::LabelPlace { fallback } | Call::Label { fallback } => {
+                write!(f, ": fallback of {fallback}")
+            }
         }
     }
 }
 
 /// A call with the slices lent to it, and what they hold before it. `fallback` is empty but for a
-/// label, and `out` but for a cut and a walk. Floats are lent as their bytes, the low byte first.
+/// label and its place, and `out` but for a cut and a walk. Floats are lent as their bytes, the low
+/// byte first.
 #[derive(Clone)]
 pub struct Request<'a> {
     pub call: Call,
@@ -117,12 +130,15 @@ pub trait Core {
 
 /// An implementation within this program.
 #[derive(Clone, Copy)]
+#[allow(clippy::type_complexity)] // the calls' own parameters
 pub struct Calls {
     pub open: fn(&[u8], &mut [u8]) -> u32,
     pub point: fn(&[u8], u32, u32, u32, &mut [u8]) -> u32,
     pub fill: fn(&[u8], u32, u32, &mut [u8]) -> u32,
-    #[allow(clippy::type_complexity)] // the C call's own parameters
     pub cut: fn(&[u8], u32, u32, u32, u32, u32, &mut [u8], &mut [u8]) -> u32,
+    pub layout: fn(&[u8], &mut [u8]) -> u32,
+    pub text_place: fn(&[u8], &mut [u8]) -> u32,
+    pub label_place: fn(&[u8], &[u8], &mut [u8]) -> u32,
     pub floats: fn(&[u8], u32, u32, &mut [f64]) -> u32,
     pub steps: fn(&[u8], u32, u32, &mut [f64], &mut [f64]) -> u32,
     pub step: fn(&[u8], u32, u32, u32, &mut [f64]) -> usize,
@@ -134,12 +150,15 @@ pub struct Calls {
 #[macro_export]
 macro_rules! calls_of {
     ($module:path) => {{
-        use $module::{calls, tested};
+        use $module::{calls, places, tested};
         $crate::request::Calls {
             open: calls::open,
             point: calls::point,
             fill: calls::fill,
             cut: calls::cut,
+            layout: places::layout,
+            text_place: places::text_place,
+            label_place: places::label_place,
             floats: tested::floats,
             steps: tested::steps,
             step: tested::step,
@@ -165,6 +184,9 @@ impl Calls {
             Call::Cut { sp, np, fp, sn, order } => {
                 (self.cut)(block, sp, np, fp, sn, order, &mut out, &mut answer)
             }
+            Call::Layout => (self.layout)(block, &mut answer),
+            Call::TextPlace => (self.text_place)(block, &mut answer),
+            Call::LabelPlace { .. } => (self.label_place)(block, fallback, &mut answer),
             Call::Floats { array, segment } => {
                 with_floats(&mut answer, |floats| (self.floats)(block, array, segment, floats))
             }

@@ -127,6 +127,9 @@ impl Core for Runner {
             Call::Step { array, segment, k } => [7, array, segment, k, 0, 0],
             Call::UserText => [8, 0, 0, 0, 0, 0],
             Call::Label { .. } => [9, 0, 0, 0, 0, 0],
+            Call::Layout => [10, 0, 0, 0, 0, 0],
+            Call::TextPlace => [11, 0, 0, 0, 0, 0],
+            Call::LabelPlace { .. } => [12, 0, 0, 0, 0, 0],
         };
         let Request { block, fallback, out, answer, .. } = request;
         self.exchange(&numbers, [block, fallback, out, answer])

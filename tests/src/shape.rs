@@ -209,3 +209,41 @@ fn samples(random: &mut Random, bytes: usize) -> Vec<u8> {
     }
     samples
 }
+
+#[cfg(test)]
+mod tests {
+    use super::*;
+
+    /// The first byte of the label that is zero, or 16.
+    fn label_length(draft: &Draft) -> usize {
+        let label = &draft.head[TRACE_LABEL..TRACE_LABEL + 16];
+        label.iter().position(|byte| *byte == 0).unwrap_or(16)
+    }
+
+    /// A thousand right blocks have all that moves a part or a text.
+    #[test]
+    fn right_blocks_differ_in_every_place() {
+        let draft = |random: &mut Random| Shape::any(random).draft(random);
+        let drafts: Vec<Draft> = (0..1000).map(|case| draft(&mut Random::new(6, case))).collect();
+        let some = |has: &dyn Fn(&Draft) -> bool| drafts.iter().any(has);
+        for digits in 3..=9 {
+            assert!(some(&|d| d.header_len() == 2 + digits), "#{digits}");
+        }
+        for length in [0, 1, 15, 16] {
+            assert!(some(&|d| label_length(d) == length), "label of {length}");
+        }
+        for length in [0, 1, 14] {
+            let old = |d: &Draft| d.head[TRACE_LABEL + length + 1] != 0;
+            assert!(some(&|d| label_length(d) == length && old(d)), "old bytes behind {length}");
+        }
+        for subarrays in [0, 1, 2] {
+            assert!(some(&|d| d.long(SUBARRAY_COUNT) == subarrays), "SUBARRAY_COUNT {subarrays}");
+        }
+        assert!(some(&|d| d.user_text.is_empty()) && some(&|d| d.user_text.len() > 255));
+        assert!(some(&|d| d.long(SPARSING_FACTOR) == 0) && some(&|d| d.long(FIRST_POINT) > 0xFFFF));
+        assert!(some(&|d| d.long(SEGMENT_INDEX) > 0));
+        assert!(some(&|d| d.array_2.is_empty()) && some(&|d| !d.array_2.is_empty()));
+        assert!(some(&|d| !d.trigtime.is_empty()) && some(&|d| !d.ristime.is_empty()));
+        assert!(some(&|d| d.tail.is_empty()) && some(&|d| d.tail == [10]));
+    }
+}

@@ -12,12 +12,8 @@ use tessarquin_tests::request::{Calls, LAW};
 /// A wrong version.
 struct Version {
     title: &'static str,
-    /// Whether a cut of a cut shows it, with nothing to compare with.
-    breaks_demand_3: bool,
-    /// Whether opening what a cut wrote shows it, with nothing to compare with.
-    breaks_a_rule: bool,
-    /// Whether the same payload under another header shows it, with nothing to compare with.
-    hangs_on_header: bool,
+    /// What shows it with nothing to compare with.
+    marks: &'static [&'static str],
     calls: Calls,
 }
 
@@ -30,48 +26,63 @@ mod wrong {
     include!(concat!(env!("OUT_DIR"), "/wrong.rs"));
 }
 
+/// A kind of case that shows a version at odds with itself.
+struct Way {
+    /// The mark of the versions that it must catch.
+    mark: &'static str,
+    caught_how: &'static str,
+    kind: &'static str,
+    run: fn(&mut Checker, &mut Random) -> Result<(), Difference>,
+}
+
+const WAYS: [Way; 4] = [
+    Way {
+        mark: "breaks demand 3",
+        caught_how: "caught by demand 3 alone",
+        kind: "cut of a cut",
+        run: cases::cut_of_cut,
+    },
+    Way {
+        mark: "breaks a rule",
+        caught_how: "caught by opening what they cut",
+        kind: "cut opened",
+        run: cases::cut_opened,
+    },
+    Way {
+        mark: "hangs on the header",
+        caught_how: "caught by two headers alone",
+        kind: "two headers",
+        run: cases::two_headers,
+    },
+    Way {
+        mark: "misplaces a part",
+        caught_how: "caught by parts and texts alone",
+        kind: "parts and texts",
+        run: cases::parts_and_texts,
+    },
+];
+
 /// Cases that a version is compared in: those of a common run.
 const CASES: u64 = 4000;
 const SEED: u64 = 1;
 
 fn main() -> ExitCode {
-    let right = first_difference(LAW)
-        .or(first_broken_pair(LAW))
-        .or(first_broken_rule(LAW))
-        .or(first_other_answer(LAW));
-    if let Some(found) = right {
+    let at_odds = || WAYS.iter().find_map(|way| first_at_odds(LAW, way));
+    if let Some(found) = first_difference(LAW).or_else(at_odds) {
         println!("the right version: {found}");
         return ExitCode::FAILURE;
     }
     // A wrong version may panic; the comparison tells of it.
     panic::set_hook(Box::new(|_| ()));
     let list = std::env::args().any(|argument| argument == "--list");
-    let paired = |version: &&Version| version.breaks_demand_3;
-    let refused = |version: &&Version| version.breaks_a_rule;
-    let hanging = |version: &&Version| version.hangs_on_header;
-    let all_caught = tell("caught", list, wrong::WRONG.iter(), first_difference);
-    let pairs_caught = tell(
-        "caught by demand 3 alone",
-        list,
-        wrong::WRONG.iter().filter(paired),
-        first_broken_pair,
-    );
-    let rules_caught = tell(
-        "caught by opening what they cut",
-        list,
-        wrong::WRONG.iter().filter(refused),
-        first_broken_rule,
-    );
-    let headers_caught = tell(
-        "caught by two headers alone",
-        list,
-        wrong::WRONG.iter().filter(hanging),
-        first_other_answer,
-    );
-    if all_caught && pairs_caught && rules_caught && headers_caught {
-        ExitCode::SUCCESS
-    } else {
-        ExitCode::FAILURE
+    let mut all_caught = tell("caught", list, wrong::WRONG.iter(), first_difference);
+    for way in &WAYS {
+        let marked = wrong::WRONG.iter().filter(|version| version.marks.contains(&way.mark));
+        all_caught &= tell(way.caught_how, list, marked, |calls| first_at_odds(calls, way));
+    }
+    match all_caught {
+        true => ExitCode::SUCCESS,
+        false => ExitCode::FAILURE,
     }
 }
 
@@ -80,7 +91,7 @@ fn tell<'a>(
     caught_how: &str,
     list: bool,
     versions: impl Iterator<Item = &'a Version>,
-    catch: fn(Calls) -> Option<String>,
+    catch: impl Fn(Calls) -> Option<String>,
 ) -> bool {
     let (mut caught, mut all) = (0, 0);
     for Version { title, calls, .. } in versions {
@@ -104,33 +115,14 @@ fn first_difference(mut calls: Calls) -> Option<String> {
     })
 }
 
-/// The first cut of a cut that is not the combined cut.
-fn first_broken_pair(calls: Calls) -> Option<String> {
-    first_at_odds(calls, "cut of a cut", cases::cut_of_cut)
-}
-
-/// The first cut of an accepted block that breaks a rule.
-fn first_broken_rule(calls: Calls) -> Option<String> {
-    first_at_odds(calls, "cut opened", cases::cut_opened)
-}
-
-/// The first payload that is answered otherwise under another header.
-fn first_other_answer(calls: Calls) -> Option<String> {
-    first_at_odds(calls, "two headers", cases::two_headers)
-}
-
 /// The first case in which a version is at odds with itself. It is compared with itself, so that
 /// nothing but what the case is made for can show it.
-fn first_at_odds(
-    calls: Calls,
-    kind: &str,
-    run: fn(&mut Checker, &mut Random) -> Result<(), Difference>,
-) -> Option<String> {
+fn first_at_odds(calls: Calls, way: &Way) -> Option<String> {
     let mut core = calls;
     let mut checker = Checker::new(&mut core, calls);
     (0..CASES).find_map(|case| {
-        let result = run(&mut checker, &mut Random::new(SEED, case));
-        result.err().map(|difference| line(case, kind, difference))
+        let result = (way.run)(&mut checker, &mut Random::new(SEED, case));
+        result.err().map(|difference| line(case, way.kind, difference))
     })
 }
 

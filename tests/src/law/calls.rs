@@ -1,5 +1,5 @@
-//! The four calls of the C host: numbers and byte slices only. Each returns 0 or the refusal's
-//! number; a refusal leaves every lent slice as it was.
+//! The calls of the C host: numbers and byte slices only. Each returns 0 or the refusal's number; a
+//! refusal leaves every lent slice as it was. places.rs has those that answer where things stand.
 
 use super::cut::{cut as cut_block, Setup};
 use super::numbers::{store, Order};
@@ -129,12 +129,12 @@ pub fn choose_segment(opened: &Opened, segment: i64) -> Result<(), Refusal> {
 }
 
 /// 13 ROOM, for an answer of so many numbers
-fn room(answer: &[u8], numbers: usize) -> Result<(), Refusal> {
+pub fn room(answer: &[u8], numbers: usize) -> Result<(), Refusal> {
     refuse(answer.len() < 8 * numbers, Refusal::Room)
 }
 
 /// Writes numbers of eight bytes, high byte first; there is room for them.
-fn write(answer: &mut [u8], numbers: &[u64]) {
+pub fn write(answer: &mut [u8], numbers: &[u64]) {
     for (place, number) in answer.chunks_mut(8).zip(numbers) {
         store(place, Order::HiFirst, *number);
     }

@@ -9,6 +9,7 @@ pub mod calls;
 pub mod cut;
 pub mod descriptor;
 pub mod numbers;
+pub mod places;
 pub mod points;
 pub mod rules;
 pub mod tested;

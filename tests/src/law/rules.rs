@@ -33,8 +33,12 @@ pub const LAST_PLACE: i64 = 268_435_455;
 /// name, empty where the block has none.
 #[derive(Debug)]
 pub struct Opened<'a> {
+    /// Where the payload starts in the block.
+    pub start: usize,
     pub order: Order,
     pub comm_type: i64,
+    /// The ten lengths, in the descriptor's order.
+    pub lengths: [i64; 10],
     pub descriptor: &'a [u8],
     pub user_text: &'a [u8],
     pub trigtime: &'a [u8],
@@ -50,6 +54,8 @@ pub struct Opened<'a> {
     /// S: at least 1.
     pub sparsing: i64,
     pub segment_index: i64,
+    /// SUBARRAY_COUNT as it stands, 0 or more.
+    pub subarray_count: i64,
     pub gain: f32,
     pub offset: f32,
     pub interval: f32,
@@ -78,7 +84,7 @@ pub fn open(block: &[u8]) -> Result<Opened<'_>, Refusal> {
     let descriptor = form(payload)?;
     tile(&descriptor)?;
     count(&descriptor)?;
-    let opened = parts(&descriptor);
+    let opened = parts(start, &descriptor);
     index(&descriptor, &opened)?;
     float(&opened)?;
     time(&opened)?;
@@ -180,8 +186,8 @@ fn segments(descriptor: &Descriptor) -> i64 {
     descriptor.long(SUBARRAY_COUNT).max(1)
 }
 
-/// Everything that points and cuts need of a block that obeys rules 1 to 6.
-fn parts<'a>(descriptor: &Descriptor<'a>) -> Opened<'a> {
+/// Everything that the calls need of a block that obeys rules 1 to 6.
+fn parts<'a>(start: usize, descriptor: &Descriptor<'a>) -> Opened<'a> {
     let lengths = descriptor.lengths();
     // The RES lengths are all 0, so the parts follow one another in the order of the list.
     let mut rest = descriptor.payload;
@@ -196,8 +202,10 @@ fn parts<'a>(descriptor: &Descriptor<'a>) -> Opened<'a> {
         (next(RIS_TIME_ARRAY), next(WAVE_ARRAY_1), next(WAVE_ARRAY_2));
     let g = segments(descriptor);
     Opened {
+        start,
         order: descriptor.order,
         comm_type: descriptor.word(COMM_TYPE),
+        lengths,
         descriptor: head,
         user_text,
         trigtime,
@@ -211,6 +219,7 @@ fn parts<'a>(descriptor: &Descriptor<'a>) -> Opened<'a> {
             factor => factor,
         },
         segment_index: descriptor.long(SEGMENT_INDEX),
+        subarray_count: descriptor.long(SUBARRAY_COUNT),
         gain: descriptor.float(VERTICAL_GAIN),
         offset: descriptor.float(VERTICAL_OFFSET),
         interval: descriptor.float(HORIZ_INTERVAL),
