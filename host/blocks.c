@@ -28,16 +28,6 @@ static struct part part_of(const uint8_t *payload, const uint8_t *layout, size_t
                          (size_t)tessarquin_number(layout, TESSARQUIN_LAYOUT_LENGTHS + part)};
 }
 
-static struct part user_text(struct block b)
-{
-    uint8_t answer[TESSARQUIN_TEXT_BYTES];
-    uint32_t refusal = tessarquin_user_text(b.bytes, b.length, answer, sizeof answer);
-    if (refusal)
-        refuse_block(b, refusal);
-    return (struct part){b.bytes + tessarquin_number(answer, TESSARQUIN_TEXT_START),
-                         (size_t)tessarquin_number(answer, TESSARQUIN_TEXT_LENGTH)};
-}
-
 struct opened open_block(struct block b)
 {
     uint8_t open[TESSARQUIN_OPEN_BYTES], layout[TESSARQUIN_LAYOUT_BYTES];
@@ -59,8 +49,7 @@ struct opened open_block(struct block b)
         .index = (uint32_t)tessarquin_number(layout, TESSARQUIN_LAYOUT_SEGMENT_INDEX),
         .payload = payload,
         .trigtime = part_of(payload, layout, TESSARQUIN_PART_TRIGTIME),
-        .ristime = part_of(payload, layout, TESSARQUIN_PART_RISTIME),
-        .text = user_text(b)};
+        .ristime = part_of(payload, layout, TESSARQUIN_PART_RISTIME)};
 }
 
 struct block cut_out(const struct opened *o, uint32_t n, uint8_t *out, size_t room)

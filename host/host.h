@@ -69,7 +69,7 @@ struct opened {
     uint32_t segments, points, arrays, order, type;
     uint32_t first, sparsing, index;
     const uint8_t *payload;
-    struct part trigtime, ristime, text;
+    struct part trigtime, ristime;
 };
 
 struct block read_block(const char *name);
@@ -83,7 +83,12 @@ struct block cut_out(const struct opened *o, uint32_t n, uint8_t *out, size_t ro
 /* The TRIGGER_TIME of segment n, where the block has trigger times. */
 double trigger_time(const struct opened *o, uint32_t n);
 
-/* ---- why.c: refusals with the numbers that were found */
+/* ---- found.c: what was found in a block that is refused */
+
+/* In words, with the numbers; nothing where nothing was found. */
+void found_in_block(FILE *to, struct block block, uint32_t refusal);
+
+/* ---- why.c: how a refusal is told */
 
 /* What was asked of a block, where something was. */
 struct asked {

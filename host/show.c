@@ -94,13 +94,24 @@ static void print_range(double from, double to, struct part unit)
 
 static void show_label(const struct opened *o)
 {
-    uint8_t answer[TESSARQUIN_LABEL_BYTES], none[1];
-    uint32_t refusal = tessarquin_label(o->block.bytes, o->block.length, none, 0, answer, sizeof answer);
+    static const uint8_t none[] = "(none)";
+    uint8_t answer[TESSARQUIN_LABEL_BYTES];
+    uint32_t refusal = tessarquin_label(o->block.bytes, o->block.length, none, sizeof none - 1, answer, sizeof answer);
     if (refusal)
         refuse_block(o->block, refusal);
-    int own = tessarquin_number(answer, TESSARQUIN_LABEL_FROM) == 0;
-    print_text("label", (struct part){(own ? o->block.bytes : none) + tessarquin_number(answer, TESSARQUIN_LABEL_START),
+    const uint8_t *from = tessarquin_number(answer, TESSARQUIN_LABEL_FROM) == 0 ? o->block.bytes : none;
+    print_text("label", (struct part){from + tessarquin_number(answer, TESSARQUIN_LABEL_START),
                                       (size_t)tessarquin_number(answer, TESSARQUIN_LABEL_LENGTH)});
+}
+
+static void show_user_text(const struct opened *o)
+{
+    uint8_t answer[TESSARQUIN_TEXT_BYTES];
+    uint32_t refusal = tessarquin_user_text(o->block.bytes, o->block.length, answer, sizeof answer);
+    if (refusal)
+        refuse_block(o->block, refusal);
+    print_text("user text", (struct part){o->block.bytes + tessarquin_number(answer, TESSARQUIN_TEXT_START),
+                                          (size_t)tessarquin_number(answer, TESSARQUIN_TEXT_LENGTH)});
 }
 
 static void show_instrument(const struct opened *o)
@@ -283,7 +294,7 @@ void show(const char *name)
         print_text("words before it", before);
     show_label(&o);
     show_instrument(&o);
-    print_text("user text", o.text);
+    show_user_text(&o);
     show_triggered(&o);
     show_record(&o);
     show_vertical(&o, vertical);
