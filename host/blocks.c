@@ -49,7 +49,8 @@ struct opened open_block(struct block b)
         .index = (uint32_t)tessarquin_number(layout, TESSARQUIN_LAYOUT_SEGMENT_INDEX),
         .payload = payload,
         .trigtime = part_of(payload, layout, TESSARQUIN_PART_TRIGTIME),
-        .ristime = part_of(payload, layout, TESSARQUIN_PART_RISTIME)};
+        .ristime = part_of(payload, layout, TESSARQUIN_PART_RISTIME),
+        .samples = {part_of(payload, layout, TESSARQUIN_PART_ARRAY_1), part_of(payload, layout, TESSARQUIN_PART_ARRAY_2)}};
 }
 
 struct block cut_out(const struct opened *o, uint32_t n, uint8_t *out, size_t room)

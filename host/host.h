@@ -69,7 +69,7 @@ struct opened {
     uint32_t segments, points, arrays, order, type;
     uint32_t first, sparsing, index;
     const uint8_t *payload;
-    struct part trigtime, ristime;
+    struct part trigtime, ristime, samples[2];
 };
 
 struct block read_block(const char *name);

@@ -2,7 +2,6 @@
 #include "host.h"
 #include "tessarquin.h"
 
-#include <math.h>
 #include <stdlib.h>
 
 /* ---- fields of an opened block */
@@ -30,6 +29,16 @@ static double double_at(const struct opened *o, size_t at)
 static struct part text_at(const struct opened *o, size_t at, size_t most)
 {
     return (struct part){o->payload + at, tessarquin_field_text(o->payload + at, most)};
+}
+
+/* The value or the time of a point, as the library answers it. */
+static double point_of(const struct opened *o, uint32_t array, uint32_t segment, uint32_t k, enum tessarquin_point_number which)
+{
+    uint8_t answer[TESSARQUIN_POINT_BYTES];
+    uint32_t refusal = tessarquin_point(o->block.bytes, o->block.length, array, segment, k, answer, sizeof answer);
+    if (refusal)
+        refuse_question("the point", o, (struct asked){array, segment, k, 0}, refusal);
+    return tessarquin_double(answer, which);
 }
 
 /* ---- lines */
@@ -172,16 +181,6 @@ static void show_vertical(const struct opened *o, struct part unit)
 
 /* ---- the horizontal side */
 
-/* The time of a point of segment 1. */
-static double time_of(const struct opened *o, uint32_t k)
-{
-    uint8_t answer[TESSARQUIN_POINT_BYTES];
-    uint32_t refusal = tessarquin_point(o->block.bytes, o->block.length, 1, 1, k, answer, sizeof answer);
-    if (refusal)
-        refuse_question("the point", o, (struct asked){1, 1, k, 0}, refusal);
-    return tessarquin_double(answer, TESSARQUIN_POINT_TIME);
-}
-
 static void show_time_rule(const struct opened *o, struct part unit)
 {
     print_name("times by");
@@ -213,7 +212,7 @@ static void show_horizontal(const struct opened *o, struct part unit)
     printf("%.6g", between * (o->points - 1));
     print_unit(unit);
     fputs(o->segments > 1 ? ", segment 1 from " : ", from ", stdout);
-    print_range(time_of(o, 0), time_of(o, o->points - 1), unit);
+    print_range(point_of(o, 1, 1, 0, TESSARQUIN_POINT_TIME), point_of(o, 1, 1, o->points - 1, TESSARQUIN_POINT_TIME), unit);
     putchar('\n');
     print_name("rate");
     if (between == 0)
@@ -229,42 +228,44 @@ static void show_horizontal(const struct opened *o, struct part unit)
 
 /* ---- what is in the arrays */
 
+/* A point, by its place among those of all segments. */
 struct place {
-    double value;
-    uint32_t segment, point;
+    int32_t sample;
+    size_t at;
 };
 
-static void print_place(const struct opened *o, const char *name, struct place p, struct part unit)
+static void print_place(const struct opened *o, uint32_t array, const char *name, struct place p, struct part unit)
 {
-    printf("%s %.6g", name, p.value);
+    uint32_t segment = (uint32_t)(p.at / o->points) + 1, k = (uint32_t)(p.at % o->points);
+    printf("%s %.6g", name, point_of(o, array, segment, k, TESSARQUIN_POINT_VALUE));
     print_unit(unit);
     if (o->segments > 1)
-        printf(" (segment %s, point %s), ", grouped(p.segment), grouped(p.point));
+        printf(" (segment %s, point %s), ", grouped(segment), grouped(k));
     else
-        printf(" (point %s), ", grouped(p.point));
+        printf(" (point %s), ", grouped(k));
 }
 
-static void show_array(const struct opened *o, uint32_t array, uint8_t *values, struct part unit)
+/* The value rises with the sample, or falls where the gain is below 0: so the samples are compared, and the library is
+   asked for the values of two of them. A call for each segment would judge all trigger times as often. */
+static void show_array(const struct opened *o, uint32_t array, struct part unit)
 {
-    struct place least = {INFINITY, 0, 0}, greatest = {-INFINITY, 0, 0};
-    long double sum = 0;
-    for (uint32_t n = 1; n <= o->segments; n++) {
-        uint32_t refusal = tessarquin_fill(o->block.bytes, o->block.length, array, n, values, (size_t)o->points * TESSARQUIN_VALUE_BYTES);
-        if (refusal)
-            refuse_question("the segment", o, (struct asked){array, n, 0, 0}, refusal);
-        for (uint32_t k = 0; k < o->points; k++) {
-            double value = tessarquin_double(values, k);
-            sum += value;
-            if (value < least.value)
-                least = (struct place){value, n, k};
-            if (value > greatest.value)
-                greatest = (struct place){value, n, k};
-        }
+    const uint8_t *samples = o->samples[array - 1].bytes;
+    size_t count = (size_t)o->points * o->segments;
+    struct place lowest = {INT32_MAX, 0}, highest = {INT32_MIN, 0};
+    int64_t sum = 0;
+    for (size_t i = 0; i < count; i++) {
+        int32_t sample = o->type == TESSARQUIN_WORD ? tessarquin_field_word(samples + 2 * i, o->order) : (int8_t)samples[i];
+        sum += sample;
+        if (sample < lowest.sample)
+            lowest = (struct place){sample, i};
+        if (sample > highest.sample)
+            highest = (struct place){sample, i};
     }
+    float gain = float_at(o, TESSARQUIN_AT_VERTICAL_GAIN), offset = float_at(o, TESSARQUIN_AT_VERTICAL_OFFSET);
     printf("array %-11u", (unsigned)array);
-    print_place(o, "least", least, unit);
-    print_place(o, "greatest", greatest, unit);
-    printf("mean %.6g", (double)(sum / ((long double)o->points * o->segments)));
+    print_place(o, array, "least", gain < 0 ? highest : lowest, unit);
+    print_place(o, array, "greatest", gain < 0 ? lowest : highest, unit);
+    printf("mean %.6g", (double)gain * ((double)sum / (double)count) - (double)offset);
     print_unit(unit);
     putchar('\n');
 }
@@ -275,12 +276,8 @@ static void show_arrays(const struct opened *o, struct part unit)
     printf("%-17s%s\n", "segment index", grouped(o->index));
     printf("%-17s%s in each segment\n", "points", grouped(o->points));
     printf("%-17s%s, %s byte first\n", "samples", o->type == TESSARQUIN_WORD ? "words" : "bytes", o->order == TESSARQUIN_LOFIRST ? "low" : "high");
-    /* The arrays of many segments take a while. */
-    fflush(stdout);
-    uint8_t *values = memory((size_t)o->points * TESSARQUIN_VALUE_BYTES);
     for (uint32_t array = 1; array <= o->arrays; array++)
-        show_array(o, array, values, unit);
-    free(values);
+        show_array(o, array, unit);
 }
 
 void show(const char *name)
