@@ -1,3 +1,4 @@
+pub mod Writing
 pub mod Slices
 pub mod Filling
 pub mod Cutting
