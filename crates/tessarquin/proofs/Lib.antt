@@ -6,3 +6,4 @@ pub mod Learnt
 pub mod Determined
 pub mod Headers
 pub mod Demands
+pub mod Places

@@ -27,7 +27,7 @@ returns : tie.Need-returns
 returns c =
     let x = c .before .before .before in
     let n = c .before-zero in
-    label-at (x .args .block .now) (bytes (c .before .before)) (x .args .o) (x .pre .0) (x .pre .1) (n .result) (n .ensures .0) (n .ensures .1)
+    label-at (x .args .block .now) (bytes (c .before .before)) (x .args .o) (x .pre .0) (x .pre .1) (n .result) (n .ensures .1)
 
 pub label-span-spec : {M : Type 1} → statement M
 label-span-spec = tie.close (tie.spec add-from before-zero-requires add-to returns)
