@@ -77,8 +77,7 @@ module _ (s : List ℕ) (b : Bytes s) (accepts : refusal s ≡ 0) where
   layout-below =
       let h : ℕ → ℕ = opened s .head in
       let g = good-opened s b accepts in
-      let sparse : sparsing h ≤ 268435455 = max-le (omega arith) (g .places .sparse) in
-      (
+      let sparse : sparsing h ≤ 268435455 = max-le (omega arith) (g .places .sparse) in (
         omega (arith, start-opened s b accepts .1),
         (
           omega (arith, g .places .first-long),
@@ -123,15 +122,23 @@ module _ (s : List ℕ) (b : Bytes s) (answer : List ℕ) (m : ℕ) (left : List
 
 -- ---- the user text
 
--- the bytes of the block from the first number in the answer on, as many as the second says
-pub text-part : (s : List ℕ) → Bytes s → (answer : List ℕ) (m : ℕ) (left : List ℕ) → TextCall s answer m left → m ≡ 0 → take (secondIn left) (drop (firstIn left) s) ≡ textOf s
-unfolding textNumber textLeft
-text-part s b answer m left call z =
-    let a = own-answered (refusal s) (textBytes s) answer m left (call .3) z in
-    let t = text-span s b (a .0) in
-    let p = read-part s b (a .0) (t .0) (textOf s) (textStart s) (t .1) in
-    let r = pair-read (textStart s) (length (textOf s)) answer (p .1, (p .2, tt)) in
-    (λ i. take ((ap secondIn (a .1) ∙ r .1) i) (drop ((ap firstIn (a .1) ∙ r .0) i) s)) ∙ p .0
+module _ (s : List ℕ) (b : Bytes s) (answer : List ℕ) (m : ℕ) (left : List ℕ) (call : TextCall s answer m left) (z : m ≡ 0) where
+  text-both : ((firstIn left ≡ textStart s) × (secondIn left ≡ length (textOf s))) × (take (length (textOf s)) (drop (textStart s) s) ≡ textOf s)
+  unfolding textNumber textLeft
+  text-both =
+      let a = own-answered (refusal s) (textBytes s) answer m left (call .3) z in
+      let t = text-span s b (a .0) in
+      let p = read-part s b (a .0) (t .0) (textOf s) (textStart s) (t .1) in
+      let r = pair-read (textStart s) (length (textOf s)) answer (p .1, (p .2, tt)) in
+      ((ap firstIn (a .1) ∙ r .0, ap secondIn (a .1) ∙ r .1), p .0)
+
+  -- the two numbers in the answer
+  pub text-read : (firstIn left ≡ textStart s) × (secondIn left ≡ length (textOf s))
+  text-read = text-both .0
+
+  -- the bytes of the block from the first number on, as many as the second says
+  pub text-part : take (secondIn left) (drop (firstIn left) s) ≡ textOf s
+  text-part = (λ i. take (text-read .1 i) (drop (text-read .0 i) s)) ∙ text-both .1
 
 -- ---- the label
 
@@ -139,24 +146,46 @@ text-part s b answer m left call z =
 abbrev pub labelIn : List ℕ → List ℕ → List ℕ → List ℕ
 labelIn s fallback left = take (thirdIn left) (drop (secondIn left) (cond (eqb (firstIn left) 0) s fallback))
 
--- three numbers in an answer, read as a label
-label-read : (s fallback answer : List ℕ) (x y z : ℕ) → Below (256 ^ 8) (x ∷ y ∷ z ∷ []) → labelIn s fallback (splice answer 0 (allBytes 0 8 (x ∷ y ∷ z ∷ []))) ≡ take z (drop y (cond (eqb x 0) s fallback))
-label-read s fallback answer x y z h =
-    let r = three-read x y z answer h in λ i. take (r .2 i) (drop (r .1 i) (cond (eqb (r .0 i) 0) s fallback))
+-- the three numbers of a label of the bytes l that stand from p on, or of a fallback of n bytes
+abbrev pub labelNumbers : List ℕ → ℕ → ℕ → List ℕ
+labelNumbers l p n = orOther l (0 ∷ p ∷ length l ∷ []) (1 ∷ 0 ∷ n ∷ [])
 
--- the label of bytes l that stand from p on, or the fallback
-label-or : (s fallback answer : List ℕ) (p : ℕ) (l : List ℕ) → take (length l) (drop p s) ≡ l → p < 256 ^ 8 → length l < 256 ^ 8 → length fallback < 256 ^ 8
-    → labelIn s fallback (splice answer 0 (allBytes 0 8 (orOther l (0 ∷ p ∷ length l ∷ []) (1 ∷ 0 ∷ length fallback ∷ [])))) ≡ orOther l l fallback
-label-or s fallback answer p [] e hp hl hf = label-read s fallback answer 1 0 (length fallback) (omega arith, (omega arith, (hf, tt))) ∙ take-length fallback
-label-or s fallback answer p (x ∷ l) e hp hl hf = label-read s fallback answer 0 p (length (x ∷ l)) (omega arith, (hp, (hl, tt))) ∙ e
+abbrev pub NumbersIn : List ℕ → List ℕ → Type 0
+NumbersIn ns left = (firstIn left ≡ getD ns 0 0) × (secondIn left ≡ getD ns 1 0) × (thirdIn left ≡ getD ns 2 0)
 
--- the bytes that the answer says are those that `label` returns. A slice's length is below 256 ^ 8
-pub label-part : (s : List ℕ) → Bytes s → (fallback : List ℕ) → length fallback < 256 ^ 8 → (answer : List ℕ) (m : ℕ) (left : List ℕ) → LabelCall s fallback answer m left → m ≡ 0
-    → labelIn s fallback left ≡ labelOf s fallback
-unfolding labelNumber labelLeft labelOf
-label-part s b fallback h answer m left call z =
-    let a = own-answered (refusal s) (labelBytes s fallback) answer m left (call .4) z in
-    let l : List ℕ = upToZero (traceLabel (opened s)) in
-    let t = label-span s b (a .0) in
-    let p = read-part s b (a .0) (t .0) l (payloadStart s + 96) (t .1) in
-    ap (labelIn s fallback) (a .1) ∙ label-or s fallback answer (payloadStart s + 96) l (p .0) (p .1) (p .2) h ∙ ap (λ (n : ℕ). ofAccepted n (orOther l l fallback) []) (sym (a .0))
+label-numbers : (l : List ℕ) (p n : ℕ) (answer : List ℕ) → p < 256 ^ 8 → length l < 256 ^ 8 → n < 256 ^ 8 → NumbersIn (labelNumbers l p n) (splice answer 0 (allBytes 0 8 (labelNumbers l p n)))
+label-numbers [] p n answer hp hl hn = three-read 1 0 n answer (omega arith, (omega arith, (hn, tt)))
+label-numbers (x ∷ l) p n answer hp hl hn = three-read 0 p (length (x ∷ l)) answer (omega arith, (hp, (hl, tt)))
+
+-- they say the bytes l, or the fallback whole
+label-bytes : (s fallback : List ℕ) (p : ℕ) (l : List ℕ) → take (length l) (drop p s) ≡ l
+    → let ns = labelNumbers l p (length fallback) in take (getD ns 2 0) (drop (getD ns 1 0) (cond (eqb (getD ns 0 0) 0) s fallback)) ≡ orOther l l fallback
+label-bytes s fallback p [] e = take-length fallback
+label-bytes s fallback p (x ∷ l) e = e
+
+module _
+    (s : List ℕ) (b : Bytes s) (fallback : List ℕ) (fits : length fallback < 256 ^ 8) (answer : List ℕ) (m : ℕ) (left : List ℕ)
+    (call : LabelCall s fallback answer m left) (z : m ≡ 0)
+  where
+    label-answered : (refusal s ≡ 0) × (left ≡ splice answer 0 (labelBytes s fallback))
+    unfolding labelNumber labelLeft
+    label-answered = own-answered (refusal s) (labelBytes s fallback) answer m left (call .4) z
+
+    there : let l = upToZero (traceLabel (opened s)) in (take (length l) (drop (payloadStart s + 96) s) ≡ l) × (payloadStart s + 96 < 256 ^ 8) × (length l < 256 ^ 8)
+    there = let t = label-span s b (label-answered .0) in read-part s b (label-answered .0) (t .0) (upToZero (traceLabel (opened s))) (payloadStart s + 96) (t .1)
+
+    -- the three numbers in the answer
+    pub label-read : NumbersIn (labelNumbers (upToZero (traceLabel (opened s))) (payloadStart s + 96) (length fallback)) left
+    label-read =
+        let l : List ℕ = upToZero (traceLabel (opened s)) in
+        subst (NumbersIn (labelNumbers l (payloadStart s + 96) (length fallback))) (sym (label-answered .1)) (label-numbers l (payloadStart s + 96) (length fallback) answer (there .1) (there .2) fits)
+
+    -- the bytes that they say are those that `label` returns
+    pub label-part : labelIn s fallback left ≡ labelOf s fallback
+    unfolding labelOf
+    label-part =
+        let l : List ℕ = upToZero (traceLabel (opened s)) in
+        let r = label-read in
+        (λ i. take (r .2 i) (drop (r .1 i) (cond (eqb (r .0 i) 0) s fallback)))
+        ∙ label-bytes s fallback (payloadStart s + 96) l (there .0)
+        ∙ ap (λ (n : ℕ). ofAccepted n (orOther l l fallback) []) (sym (label-answered .0))

@@ -5,7 +5,7 @@ use Prim.Native.Nat.{ℕ, zero, suc, _+_, _*_, _^_, _≤_, _<_}
 use native.Mathlib.Numerals.{add-one}
 use native.Mathlib.Omega.{arith}
 use lib.ListN.{length, take, drop, getD}
-use lib.Seq.{take-at, take-suc, drop-drop, length-take-le}
+use lib.Seq.{take-at, drop-at, take-suc, drop-drop, length-take-le}
 use Rattle.rules.specs.Numbers.{Below, number, bytes, pieces, numbers, allBytes, splice}
 use Rattle.rules.proofs.Numbers.{numbers-allBytes, length-allBytes}
 use Rattle.rules.proofs.Slices.{numbers-take}
@@ -45,6 +45,20 @@ pub numbers-read : (ns slice : List ℕ) → Below (256 ^ 8) ns → numbers 0 8 
 numbers-read ns slice h =
     sym (numbers-take 0 8 (length ns) (length ns * 8) (splice slice 0 (allBytes 0 8 ns)) (omega arith))
     ∙ ap (numbers 0 8 (length ns)) (front (allBytes 0 8 ns) slice (length ns * 8) (length-allBytes 0 8 ns)) ∙ numbers-allBytes 0 8 ns h
+
+-- the first of them alone, and what stands behind these
+module _ (xs ys slice : List ℕ) where
+  apart : splice slice 0 (allBytes 0 8 (xs ++ ys)) ≡ allBytes 0 8 xs ++ (allBytes 0 8 ys ++ drop (length (xs ++ ys) * 8) slice)
+  apart =
+      let e : 0 + length (allBytes 0 8 (xs ++ ys)) ≡ length (xs ++ ys) * 8 = omega (arith, length-allBytes 0 8 (xs ++ ys)) in
+      (λ i. allBytes-append 0 8 xs ys i ++ drop (e i) slice)
+      ∙ append-assoc (allBytes 0 8 xs) (allBytes 0 8 ys) (drop (length (xs ++ ys) * 8) slice)
+
+  pub numbers-before : (n : ℕ) → length xs * 8 ≡ n → take n (splice slice 0 (allBytes 0 8 (xs ++ ys))) ≡ allBytes 0 8 xs
+  numbers-before n e = ap (take n) apart ∙ take-at (allBytes 0 8 xs) (allBytes 0 8 ys ++ drop (length (xs ++ ys) * 8) slice) n (length-allBytes 0 8 xs ∙ e)
+
+  pub numbers-behind : (n : ℕ) → length xs * 8 ≡ n → drop n (splice slice 0 (allBytes 0 8 (xs ++ ys))) ≡ allBytes 0 8 ys ++ drop (length (xs ++ ys) * 8) slice
+  numbers-behind n e = ap (drop n) apart ∙ drop-at (allBytes 0 8 xs) (allBytes 0 8 ys ++ drop (length (xs ++ ys) * 8) slice) n (length-allBytes 0 8 xs ∙ e)
 
 -- two of them, and three
 pub pair-read : (x y : ℕ) (slice : List ℕ) → Below (256 ^ 8) (x ∷ y ∷ [])
