@@ -17,7 +17,8 @@ use Rattle.rules.specs.Cut.{Setup, step, orElse, count, cutBytes, cutRules, cut
 use Rattle.rules.proofs.Tests.{orElse-none}
 use Rattle.rules.proofs.Demands.{CutTaken, KeptPoint, Small, OneCut, cut-says, room-enough, numbers-fit, cut-bytes, demand-3}
 use Rattle.tessarquin.specs.Calls.{leftBy, pointBytes, pointNumber, pointLeft, cutAnswer, cutNumber, cutLeft, cutAnswerLeft}
-use Rattle.tessarquin.proofs.Slices.{pair-length, front, pair-read, number-enough, own-answered}
+use Rattle.tessarquin.proofs.Writing.{front, pair-read}
+use Rattle.tessarquin.proofs.Slices.{pair-length, number-enough, own-answered}
 use Rattle.tessarquin.proofs.Cutting.{answer-length}
 use Rattle.tessarquin.proofs.Learnt.{PointCall, CutCall}
 
@@ -58,7 +59,7 @@ done s bytes c q out answer m left second call z =
     let filled : left ≡ splice out 0 (cutBytes q c s) = call .4 .1 .0 ∙ ap (λ (n : ℕ). leftBy n (cutBytes q c s) out) e in
     let told : second ≡ splice answer 0 (cutAnswer s c q) = call .4 .1 .1 ∙ ap (λ (n : ℕ). leftBy n (cutAnswer s c q) answer) e in
     let fit = numbers-fit s bytes (t .block) q c (t .allows) in
-    let read = pair-read (count c (points (opened s .head))) (length (cutBytes q c s)) answer (fit .0) (fit .1) in
+    let read = pair-read (count c (points (opened s .head))) (length (cutBytes q c s)) answer (omega (arith, fit .0), (omega (arith, fit .1), tt)) in
     let long : lengthIn second ≡ length (cutBytes q c s) = ap lengthIn told ∙ read .1 in
     record {
       taken = taken;

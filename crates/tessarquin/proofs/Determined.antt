@@ -1,10 +1,10 @@
 -- Two numbers that a call's contract allows for one input are equal, and so are the bytes left in the slices: `open-determined`, `point-determined`,
--- `fill-determined`, `cut-determined`.
+-- `fill-determined`, `cut-determined`, `layout-determined`, `text-determined`, `label-determined`.
 use mathlib.Core.Path.{_≡_, sym, _∙_}
 use mathlib.Core.List.{List}
 use Prim.Native.Nat.{ℕ}
 use Rattle.rules.specs.Cut.{Setup}
-use Rattle.tessarquin.proofs.Learnt.{OpenCall, PointCall, FillCall, CutCall}
+use Rattle.tessarquin.proofs.Learnt.{OpenCall, PointCall, FillCall, CutCall, LayoutCall, TextCall, LabelCall}
 
 pub open-determined : (s answer : List ℕ) (m n : ℕ) (x y : List ℕ) → OpenCall s answer m x → OpenCall s answer n y → (m ≡ n) × (x ≡ y)
 open-determined s answer m n x y p q = (p .3 .0 ∙ sym (q .3 .0), p .3 .1 ∙ sym (q .3 .1))
@@ -18,3 +18,12 @@ fill-determined s array segment answer m n x y p q = (p .3 .0 ∙ sym (q .3 .0),
 -- the number, the slice of the block and the slice of c and the length
 pub cut-determined : (s : List ℕ) (c : Setup) (order : ℕ) (out answer : List ℕ) (m n : ℕ) (x y u v : List ℕ) → CutCall s c order out answer m x u → CutCall s c order out answer n y v → (m ≡ n) × (x ≡ y) × (u ≡ v)
 cut-determined s c order out answer m n x y u v p q = (p .4 .0 ∙ sym (q .4 .0), p .4 .1 .0 ∙ sym (q .4 .1 .0), p .4 .1 .1 ∙ sym (q .4 .1 .1))
+
+pub layout-determined : (s answer : List ℕ) (m n : ℕ) (x y : List ℕ) → LayoutCall s answer m x → LayoutCall s answer n y → (m ≡ n) × (x ≡ y)
+layout-determined s answer m n x y p q = (p .3 .0 ∙ sym (q .3 .0), p .3 .1 ∙ sym (q .3 .1))
+
+pub text-determined : (s answer : List ℕ) (m n : ℕ) (x y : List ℕ) → TextCall s answer m x → TextCall s answer n y → (m ≡ n) × (x ≡ y)
+text-determined s answer m n x y p q = (p .3 .0 ∙ sym (q .3 .0), p .3 .1 ∙ sym (q .3 .1))
+
+pub label-determined : (s fallback answer : List ℕ) (m n : ℕ) (x y : List ℕ) → LabelCall s fallback answer m x → LabelCall s fallback answer n y → (m ≡ n) × (x ≡ y)
+label-determined s fallback answer m n x y p q = (p .4 .0 ∙ sym (q .4 .0), p .4 .1 ∙ sym (q .4 .1))

@@ -1,3 +1,4 @@
+pub mod Writing
 pub mod Slices
 pub mod Filling
 pub mod Cutting
@@ -5,3 +6,4 @@ pub mod Learnt
 pub mod Determined
 pub mod Headers
 pub mod Demands
+pub mod Places

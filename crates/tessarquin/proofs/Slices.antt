@@ -2,21 +2,23 @@
 -- `own-answered`).
 use mathlib.Core.Path.{_≡_, refl, sym, ap, _∙_}
 use mathlib.Core.Bool.{Bool, cond}
-use mathlib.Core.List.{List, [], _∷_, _++_, flatten, append-nil, append-assoc}
-use Prim.Native.Nat.{ℕ, zero, suc, _+_, _≤_, _<_}
+use mathlib.Core.List.{List, [], _∷_, _++_}
+use Prim.Native.Nat.{ℕ, zero, suc, _+_, _-_, _*_, _≤_, _<_}
 use native.Mathlib.Omega.{arith}
 use lib.Dec.{leb}
-use lib.ListN.{length, take, drop}
-use lib.Seq.{take-at, drop-at}
+use lib.ListN.{length}
 use borrow.Author.Tests.{le-leb, lt-leb}
-use Rattle.rules.specs.Numbers.{number, bytes, allBytes, splice}
-use Rattle.rules.specs.Wave.{orderOf, segments, points}
-use Rattle.rules.specs.Rules.{opened}
+use Rattle.rules.specs.Numbers.{startsFrom, allBytes, splice}
+use Rattle.rules.specs.Wave.{orderOf, segments, points, firstPoint, sparsing, segmentIndex, subarrayCount, lengthsOf, startsOf}
+use Rattle.rules.specs.Rules.{payloadStart, opened}
 use Rattle.rules.specs.Cut.{orElse}
-use Rattle.rules.proofs.Numbers.{number-bytes, length-bytes, length-allBytes}
+use Rattle.rules.proofs.Numbers.{length-allBytes}
 use Rattle.rules.proofs.Tests.{orElse-none}
 use Rattle.block.specs.Opened.{arraysOf}
-use Rattle.tessarquin.specs.Calls.{orRoom, leftBy, openBytes}
+use Rattle.block.specs.declared.Span.{Span}
+use Rattle.block.specs.Texts.{Stands, traceLabel, upToZero, orOther}
+use Rattle.block.proofs.Parts.{span-length, span-none, span-some}
+use Rattle.tessarquin.specs.Calls.{orRoom, leftBy, openBytes, layoutBytes, labelBytes}
 
 -- ---- how long the answers are
 
@@ -26,23 +28,34 @@ open-length s = let h : ℕ → ℕ = opened s .head in length-allBytes 0 8 (seg
 pub pair-length : (x y : ℕ) → length (allBytes 0 8 (x ∷ y ∷ [])) ≡ 16
 pair-length x y = length-allBytes 0 8 (x ∷ y ∷ [])
 
--- ---- what stands at the start of a slice that was written
+pub layout-length : (s : List ℕ) → length (layoutBytes s) ≡ 200
+unfolding startsOf startsFrom
+layout-length s =
+    let h : ℕ → ℕ = opened s .head in
+    length-allBytes 0 8 (payloadStart s ∷ firstPoint h ∷ sparsing h ∷ segmentIndex h ∷ subarrayCount h ∷ lengthsOf h ++ startsOf h)
 
-pub front : (bs slice : List ℕ) (n : ℕ) → length bs ≡ n → take n (splice slice 0 bs) ≡ bs
-front bs slice n e = take-at bs (drop (0 + length bs) slice) n e
+pub label-length : (s fallback : List ℕ) → length (labelBytes s fallback) ≡ 24
+label-length s fallback =
+    let l : List ℕ = upToZero (traceLabel (opened s)) in
+    length-allBytes 0 8 (orOther l (0 ∷ (payloadStart s + 96) ∷ length l ∷ []) (1 ∷ 0 ∷ length fallback ∷ [])) ∙ ap (λ (k : ℕ). k * 8) (three l (payloadStart s + 96) (length l) (length fallback))
+  where
+    three : (l : List ℕ) (x y z : ℕ) → length (orOther l (0 ∷ x ∷ y ∷ []) (1 ∷ 0 ∷ z ∷ [])) ≡ 3
+    three [] x y z = refl
+    three (_ ∷ l) x y z = refl
 
--- two numbers of eight bytes, read back
-pub pair-read : (x y : ℕ) (slice : List ℕ) → x < 4294967296 → y < 4294967296
-    → let l = splice slice 0 (allBytes 0 8 (x ∷ y ∷ [])) in (number 0 (take 8 l) ≡ x) × (number 0 (take 8 (drop 8 l)) ≡ y)
-unfolding flatten
-pair-read x y slice h k =
-    let rest : List ℕ = drop (0 + length (allBytes 0 8 (x ∷ y ∷ []))) slice in
-    let apart : splice slice 0 (allBytes 0 8 (x ∷ y ∷ [])) ≡ bytes 0 8 x ++ (bytes 0 8 y ++ rest) =
-    append-assoc (bytes 0 8 x) (bytes 0 8 y ++ []) rest ∙ ap (λ (u : List ℕ). bytes 0 8 x ++ (u ++ rest)) (append-nil (bytes 0 8 y)) in (
-      ap (λ (u : List ℕ). number 0 (take 8 u)) apart ∙ ap (number 0) (take-at (bytes 0 8 x) (bytes 0 8 y ++ rest) 8 (length-bytes 0 8 x)) ∙ number-bytes 0 8 x (omega arith),
-      ap (λ (u : List ℕ). number 0 (take 8 (drop 8 u))) apart ∙ ap (λ (u : List ℕ). number 0 (take 8 u)) (drop-at (bytes 0 8 x) (bytes 0 8 y ++ rest) 8 (length-bytes 0 8 x))
-          ∙ ap (number 0) (take-at (bytes 0 8 y) rest 8 (length-bytes 0 8 y)) ∙ number-bytes 0 8 y (omega arith),
-    )
+-- ---- the label's answer, by the span of TRACE_LABEL's bytes before the first zero
+
+module _ (s fallback : List ℕ) (r : Span) (t : Stands s r (upToZero (traceLabel (opened s))) (payloadStart s + 96)) where
+  -- the span has no bytes: the fallback
+  pub label-other : r .from ≡ r .to → allBytes 0 8 (1 ∷ 0 ∷ length fallback ∷ []) ≡ labelBytes s fallback
+  label-other z =
+      sym (ap (allBytes 0 8) (span-none t (0 ∷ (payloadStart s + 96) ∷ length (upToZero (traceLabel (opened s))) ∷ []) (1 ∷ 0 ∷ length fallback ∷ []) z))
+
+  -- it has some: the span itself
+  pub label-own : (r .from ≡ r .to → ⊥) → allBytes 0 8 (0 ∷ r .from ∷ (r .to - r .from) ∷ []) ≡ labelBytes s fallback
+  label-own h =
+      (λ i. allBytes 0 8 (0 ∷ t .starts i ∷ sym (span-length t) i ∷ []))
+      ∙ sym (ap (allBytes 0 8) (span-some t (0 ∷ (payloadStart s + 96) ∷ length (upToZero (traceLabel (opened s))) ∷ []) (1 ∷ 0 ∷ length fallback ∷ []) h))
 
 -- ---- the number n of the rules before 13, and the bytes that are to go where there is room
 

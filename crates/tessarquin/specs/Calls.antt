@@ -1,16 +1,17 @@
 -- The calls for a host in C: the number that each returns, and what it leaves in each slice that it was lent. Definitions only.
-use Prim.Native.Nat.{ℕ, zero, suc}
+use Prim.Native.Nat.{ℕ, zero, suc, _+_}
 use mathlib.Core.Bool.{cond}
-use mathlib.Core.List.{List, [], _∷_, map}
+use mathlib.Core.List.{List, [], _∷_, _++_, map}
 use lib.ListN.{length}
 use lib.Dec.{leb}
 use lib.Ieee.{binary64, toBits}
 use Rattle.rules.specs.Numbers.{allBytes, upFrom, splice}
-use Rattle.rules.specs.Wave.{orderOf, segments, points}
-use Rattle.rules.specs.Rules.{refusal, opened}
+use Rattle.rules.specs.Wave.{orderOf, segments, points, firstPoint, sparsing, segmentIndex, subarrayCount, lengthsOf, startsOf}
+use Rattle.rules.specs.Rules.{payloadStart, refusal, opened}
 use Rattle.rules.specs.Points.{value, time, pointRefusal, walkRefusal}
 use Rattle.rules.specs.Cut.{Setup, orElse, count, cutBytes, cutRefusal}
 use Rattle.block.specs.Opened.{arraysOf}
+use Rattle.block.specs.Texts.{textOf, textStart, traceLabel, upToZero, orOther}
 
 -- 13, after every other check: where bytes do not fit the room that they were lent
 abbrev pub orRoom : ℕ → List ℕ → ℕ → ℕ
@@ -71,3 +72,40 @@ cutLeft s c q out second = leftBy (cutNumber s c q (length out) second) (cutByte
 
 unfoldable pub cutAnswerLeft : List ℕ → Setup → ℕ → ℕ → List ℕ → List ℕ
 cutAnswerLeft s c q room answer = leftBy (cutNumber s c q room (length answer)) (cutAnswer s c q) answer
+
+-- ---- the layout: where the payload starts, F, S, SEGMENT_INDEX, SUBARRAY_COUNT, the ten lengths, and where each part starts in the payload
+
+abbrev pub layoutBytes : List ℕ → List ℕ
+layoutBytes s =
+    let h = opened s .head in
+    allBytes 0 8 (payloadStart s ∷ firstPoint h ∷ sparsing h ∷ segmentIndex h ∷ subarrayCount h ∷ lengthsOf h ++ startsOf h)
+
+unfoldable pub layoutNumber : List ℕ → ℕ → ℕ
+layoutNumber s room = orRoom (refusal s) (layoutBytes s) room
+
+unfoldable pub layoutLeft : List ℕ → List ℕ → List ℕ
+layoutLeft s answer = leftBy (layoutNumber s (length answer)) (layoutBytes s) answer
+
+-- ---- the user text: where it starts in the block, and how many bytes it has
+
+abbrev pub textBytes : List ℕ → List ℕ
+textBytes s = allBytes 0 8 (textStart s ∷ length (textOf s) ∷ [])
+
+unfoldable pub textNumber : List ℕ → ℕ → ℕ
+textNumber s room = orRoom (refusal s) (textBytes s) room
+
+unfoldable pub textLeft : List ℕ → List ℕ → List ℕ
+textLeft s answer = leftBy (textNumber s (length answer)) (textBytes s) answer
+
+-- ---- the label: 0 and where it stands in the block, or 1 and the fallback whole where TRACE_LABEL is empty
+
+abbrev pub labelBytes : List ℕ → List ℕ → List ℕ
+labelBytes s fallback =
+    let l = upToZero (traceLabel (opened s)) in
+    allBytes 0 8 (orOther l (0 ∷ (payloadStart s + 96) ∷ length l ∷ []) (1 ∷ 0 ∷ length fallback ∷ []))
+
+unfoldable pub labelNumber : List ℕ → List ℕ → ℕ → ℕ
+labelNumber s fallback room = orRoom (refusal s) (labelBytes s fallback) room
+
+unfoldable pub labelLeft : List ℕ → List ℕ → List ℕ → List ℕ
+labelLeft s fallback answer = leftBy (labelNumber s fallback (length answer)) (labelBytes s fallback) answer

@@ -1,5 +1,7 @@
-// The four calls for a host in C: numbers and byte slices only. Each returns 0 or the number of its refusal, and writes its answer as numbers of
+// The calls for a host in C: numbers and byte slices only. Each returns 0 or the number of its refusal, and writes its answer as numbers of
 // eight bytes, the high byte first.
+mod parts;
+
 use block::Opened;
 use cuts::Setup;
 use points::Place;
@@ -104,9 +106,14 @@ fn put_opened(o: Opened, out: &mut [u8])
     requires { ⌜ 40 ≤ length (now out) ⌝ }
     ensures { λ _. ⌜ now (out .exit) ≡ splice (now (out .entry)) 0 (allBytes 0 8 (o .segments ∷ o .points ∷ o .arrays ∷ o .order ∷ o .kind ∷ [])) ⌝ }
 {
-    put_pair(o.segments as u64, o.points as u64, out, 0);
-    put_pair(o.arrays as u64, o.order as u64, out, 16);
-    numbers::put_u64(o.kind as u64, 0, out, 32);
+    put_five(
+        o.segments as u64,
+        o.points as u64,
+        o.arrays as u64,
+        o.order as u64,
+        o.kind as u64,
+        out,
+    );
 }
 
 // The number of a cut that has nowhere to go: never 0.
@@ -133,6 +140,24 @@ fn put_values(block: &[u8], array: u32, segment: u32, place: Place, out: &mut [u
         return;
     }
     fills::put_words(block, from, count, place.order, c, out);
+}
+
+// Five numbers of eight bytes at the start of out, the high byte first.
+fn put_five(a: u64, b: u64, c: u64, d: u64, e: u64, out: &mut [u8])
+    requires { ⌜ 40 ≤ length (now out) ⌝ }
+    ensures { λ _. ⌜ now (out .exit) ≡ splice (now (out .entry)) 0 (allBytes 0 8 (a ∷ b ∷ c ∷ d ∷ e ∷ [])) ⌝ }
+{
+    put_three(a, b, c, out);
+    put_pair(d, e, out, 24);
+}
+
+// Three numbers of eight bytes at the start of out, the high byte first.
+fn put_three(a: u64, b: u64, c: u64, out: &mut [u8])
+    requires { ⌜ 24 ≤ length (now out) ⌝ }
+    ensures { λ _. ⌜ now (out .exit) ≡ splice (now (out .entry)) 0 (allBytes 0 8 (a ∷ b ∷ c ∷ [])) ⌝ }
+{
+    put_pair(a, b, out, 0);
+    numbers::put_u64(c, 0, out, 16);
 }
 
 // Two numbers of eight bytes from `at`, the high byte first.

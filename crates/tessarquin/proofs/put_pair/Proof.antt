@@ -1,11 +1,10 @@
 -- The second number goes right behind the first.
-use mathlib.Core.Path.{sym, ap, _∙_}
-use mathlib.Core.List.{List, _++_, flatten, append-nil}
+use mathlib.Core.Path.{refl, ap, _∙_}
+use mathlib.Core.List.{List, [], _∷_}
 use Prim.Native.Nat.{ℕ, _+_}
 use native.Mathlib.Omega.{arith}
 use Rattle.rules.specs.Numbers.{bytes, splice}
-use Rattle.rules.proofs.Numbers.{length-bytes}
-use Rattle.copies.proofs.Laws.{then}
+use Rattle.tessarquin.proofs.Writing.{one-number, number-then}
 use borrow.Author.Needs.{needs}
 use Rattle.tessarquin.proofs.put_pair.Statement.{statement}
 use Rattle.tessarquin.proofs.put_pair.Tie as tie
@@ -26,13 +25,11 @@ same-length : tie.Need-same-length
 same-length c = search needs
 
 returns : tie.Need-returns
-unfolding flatten
 returns c =
     let a = c .before .before .before .before .before .before .before .before .before .args in
     c .before .before .put-u642 .ensures
-    ∙ ap {B = List ℕ} (λ u. splice u (a .at + 8) (bytes 0 8 (a .b))) (c .before .before .before .before .before .before .put-u64 .ensures)
-    ∙ then (a .out .now) (a .at) 8 (bytes 0 8 (a .a)) (bytes 0 8 (a .b)) (length-bytes 0 8 (a .a)) (omega (arith, c .before .before .before .before .before .before .before .before .before .pre))
-    ∙ ap {B = List ℕ} (λ u. splice (a .out .now) (a .at) (bytes 0 8 (a .a) ++ u)) (sym (append-nil (bytes 0 8 (a .b))))
+    ∙ ap {B = List ℕ} (λ u. splice u (a .at + 8) (bytes 0 8 (a .b))) (c .before .before .before .before .before .before .put-u64 .ensures ∙ ap {B = List ℕ} (splice (a .out .now) (a .at)) (one-number (a .a)))
+    ∙ number-then (a .out .now) (a .at) 1 (a .a ∷ []) (a .b) refl (omega (arith, c .before .before .before .before .before .before .before .before .before .pre))
 
 pub put-pair-spec : {M : Type 1} → statement M
 put-pair-spec =
