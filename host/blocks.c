@@ -2,7 +2,7 @@
 #include "host.h"
 #include "tessarquin.h"
 
-/* One byte more than the longest block with the longest words: enough to see that a file is too long. */
+/* One byte more than the longest block with the longest words: of a longer file this much, which is refused. */
 #define READ_MOST (TESSARQUIN_BLOCK_MOST + WORDS_MOST + 1u)
 
 /* Where the # is; 0 where none is found, so that the whole is refused. */
@@ -15,8 +15,6 @@ static size_t words_before(struct file file)
 struct block read_block(const char *name)
 {
     struct file file = read_file(name, READ_MOST);
-    if (file.length == READ_MOST)
-        fail(REFUSED, "%s has more than %s bytes, and no block has more than %s", file.name, grouped(READ_MOST - 1), grouped(TESSARQUIN_BLOCK_MOST));
     size_t before = words_before(file);
     return (struct block){file, file.bytes + before, file.length - before};
 }
@@ -59,7 +57,7 @@ struct block cut_out(const struct opened *o, uint32_t n, uint8_t *out, size_t ro
     struct block b = o->block;
     uint32_t refusal = tessarquin_cut(b.bytes, b.length, 1, 0, 0, n, o->order, out, room, answer, sizeof answer);
     if (refusal)
-        refuse_question("the segment", o, (struct asked){.segment = n}, refusal);
+        refuse_question("a segment of ", o, (struct asked){.segment = n}, refusal);
     return (struct block){b.file, out, (size_t)tessarquin_number(answer, TESSARQUIN_CUT_LENGTH)};
 }
 

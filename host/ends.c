@@ -1,4 +1,5 @@
-/* How the program ends where something went wrong: one line on standard error, and a status. */
+/* What the program says on standard error, and how it ends where something went wrong. */
+#define _GNU_SOURCE
 #include "host.h"
 
 #include <errno.h>
@@ -6,13 +7,29 @@
 #include <stdlib.h>
 #include <string.h>
 
+static void say_line(const char *format, va_list args)
+{
+    char *text;
+    if (vasprintf(&text, format, args) < 0)
+        return;
+    write_line(stderr, text);
+    free(text);
+}
+
+void say(const char *format, ...)
+{
+    va_list args;
+    va_start(args, format);
+    say_line(format, args);
+    va_end(args);
+}
+
 void fail(int status, const char *format, ...)
 {
     va_list args;
     va_start(args, format);
     fputs("trace: ", stderr);
-    vfprintf(stderr, format, args);
-    fputc('\n', stderr);
+    say_line(format, args);
     va_end(args);
     exit(status);
 }

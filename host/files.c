@@ -30,7 +30,7 @@ struct file read_file(const char *name, size_t most)
     if (ferror(file))
         file_failed(name);
     fclose(file);
-    return (struct file){name, bytes, length, is.st_dev, is.st_ino};
+    return (struct file){name, bytes, length, length < most, is.st_dev, is.st_ino};
 }
 
 /* How many of the bytes were written; where not all, errno says why. */
@@ -159,12 +159,12 @@ static void write_standard(struct file from, const uint8_t *bytes, size_t length
     write_plainly(name, STDOUT_FILENO, bytes, length);
 }
 
-int write_file(struct file from, const char *to, int replace, const uint8_t *bytes, size_t length)
+void write_file(struct file from, const char *to, int replace, const uint8_t *bytes, size_t length)
 {
     struct stat old;
     if (strcmp(to, "-") == 0) {
         write_standard(from, bytes, length);
-        return 0;
+        return;
     }
     if (stat(to, &old) != 0) {
         if (errno != ENOENT)
@@ -172,15 +172,15 @@ int write_file(struct file from, const char *to, int replace, const uint8_t *byt
         if (lstat(to, &old) == 0)
             fail(FAILED, "%s is a link to a file that is not there", to);
         write_regular(to, NULL, bytes, length);
-        return 1;
+        return;
     }
     spare(from, &old, to);
     if (!replace && (S_ISREG(old.st_mode) || S_ISBLK(old.st_mode)))
         fail(FAILED, "%s is there already: -f replaces it", to);
-    if (S_ISREG(old.st_mode)) {
+    if (S_ISREG(old.st_mode) && !(old.st_mode & 0222))
+        fail(FAILED, "%s is read-only, and is left as it is", to);
+    if (S_ISREG(old.st_mode))
         write_regular(to, &old, bytes, length);
-        return 1;
-    }
-    write_to_device(to, bytes, length);
-    return 0;
+    else
+        write_to_device(to, bytes, length);
 }

@@ -16,20 +16,20 @@ static size_t digit_of(struct block b)
 
 static void found_frame(FILE *to, struct block b)
 {
-    if (b.file.length == 0)
+    if (b.length == 0)
         fputs("it is empty", to);
     else if (b.bytes[0] != '#')
-        fprintf(to, "no # in %s %zu bytes", b.length < WORDS_MOST ? "its" : "the first", b.length < WORDS_MOST ? b.length : WORDS_MOST);
+        fprintf(to, "no # in %s %s", b.length < WORDS_MOST ? "its" : "the first", counted((int64_t)(b.length < WORDS_MOST ? b.length : WORDS_MOST), "byte"));
     else if (b.length == 1)
         fputs("it ends with its #", to);
     else if (b.bytes[1] < '1' || b.bytes[1] > '9') {
-        fputs("it starts with ", to);
+        fprintf(to, "it %s with ", b.bytes == b.file.bytes ? "starts" : "goes on");
         write_text(to, b.bytes, 2);
     } else {
         size_t digits = digit_of(b);
-        fprintf(to, "behind #%zu stands ", digits);
+        fprintf(to, "#%zu is followed by ", digits);
         write_text(to, b.bytes + 2, b.length - 2 < digits ? b.length - 2 : digits);
-        fprintf(to, "%s, not %zu digit%s", b.length == 2 ? "nothing" : "", digits, digits == 1 ? "" : "s");
+        fprintf(to, "%s, not by %s", b.length == 2 ? "nothing" : "", counted((int64_t)digits, "digit"));
     }
 }
 
@@ -58,7 +58,7 @@ static void found_length(FILE *to, struct block b)
     else if (says > 16777216)
         fputs(", and 16,777,216 are the most", to);
     else {
-        fprintf(to, " and %s follow", grouped((int64_t)there.length));
+        fprintf(to, " and %s%s follow", b.file.whole ? "" : "at least ", grouped((int64_t)there.length));
         if (there.length == says + 1)
             fprintf(to, ", the last not a new line but %02X", there.bytes[says]);
     }
@@ -93,7 +93,7 @@ static void found_name(FILE *to, struct head h)
     static const char right[] = "WAVEDESC";
     int other = memcmp(h.bytes, right, sizeof right) != 0;
     const uint8_t *name = h.bytes + (other ? TESSARQUIN_AT_DESCRIPTOR_NAME : TESSARQUIN_AT_TEMPLATE_NAME);
-    size_t length = tessarquin_field_text(name, TESSARQUIN_NAME_BYTES);
+    size_t length = tessarquin_field_text_length(name, TESSARQUIN_NAME_BYTES);
     fputs(other ? "the descriptor is " : "the template is ", to);
     write_text(to, name, length);
     fputs(length == 0 ? "not named" : "", to);
@@ -104,8 +104,10 @@ static void found_form(FILE *to, struct head h)
     const uint8_t *order = h.bytes + TESSARQUIN_AT_COMM_ORDER;
     if (order[0] > 1 || order[1] != 0)
         fprintf(to, "the bytes of COMM_ORDER are %02X %02X, not 00 00 or 01 00", order[0], order[1]);
-    else
-        fprintf(to, "COMM_TYPE is %d, not 0 or 1", tessarquin_field_word(h.bytes + TESSARQUIN_AT_COMM_TYPE, h.order));
+    else {
+        int type = tessarquin_field_word(h.bytes + TESSARQUIN_AT_COMM_TYPE, h.order);
+        fprintf(to, "COMM_TYPE is %d, not 0 or 1%s", type, type == 256 ? ", and 1 in the other byte order than COMM_ORDER says" : "");
+    }
 }
 
 static void found_tile(FILE *to, struct head h, struct block b)
@@ -129,12 +131,12 @@ static void found_tile(FILE *to, struct head h, struct block b)
     fprintf(to, "the parts have %s bytes and the payload has %s", grouped(sum), grouped((int64_t)stated(b)));
 }
 
-/* Whether a part has neither 0 bytes nor so many as its elements take; then it says so. */
+/* Whether a part has other than so many bytes for each of its elements; then it says so. */
 static int part_differs(FILE *to, const char *name, int64_t length, int64_t elements, const char *of, int64_t bytes)
 {
     if (length == elements * bytes)
         return 0;
-    fprintf(to, "%s has %s bytes, and %s %s take %s", name, grouped(length), grouped(elements), of, grouped(elements * bytes));
+    fprintf(to, "%s has %s, and %s of %s would have %s", name, counted(length, "byte"), counted(elements, of), counted(bytes, "byte"), grouped(elements * bytes));
     return 1;
 }
 
@@ -143,11 +145,11 @@ static void found_tables(FILE *to, struct head h, int64_t g)
     int32_t trigtime = length_of(h, TESSARQUIN_PART_TRIGTIME), ristime = length_of(h, TESSARQUIN_PART_RISTIME);
     int32_t index = long_at(h, TESSARQUIN_AT_SEGMENT_INDEX);
     int64_t sweeps = tessarquin_field_word(h.bytes + TESSARQUIN_AT_RIS_SWEEPS, h.order);
-    if (trigtime != 0 && part_differs(to, "TRIGTIME_ARRAY", trigtime, g, "segments", TESSARQUIN_TRIGTIME_BYTES))
+    if (trigtime != 0 && part_differs(to, "TRIGTIME_ARRAY", trigtime, g, "segment", TESSARQUIN_TRIGTIME_BYTES))
         return;
-    if (ristime != 0 && part_differs(to, "RIS_TIME_ARRAY", ristime, sweeps, "sweeps", 8))
-        return;
-    if (ristime != 0 && g > 1)
+    if (ristime != 0 && ristime != 8 * sweeps)
+        fprintf(to, "RIS_TIME_ARRAY has %s, and RIS_SWEEPS is %s", counted(ristime, "byte"), grouped(sweeps));
+    else if (ristime != 0 && g > 1)
         fprintf(to, "RISTIME stands beside %s segments", grouped(g));
     else if (ristime != 0 && trigtime != 0)
         fputs("RISTIME stands beside TRIGTIME", to);
@@ -160,15 +162,14 @@ static void found_count(FILE *to, struct head h)
     int64_t count = long_at(h, TESSARQUIN_AT_WAVE_ARRAY_COUNT), subarrays = long_at(h, TESSARQUIN_AT_SUBARRAY_COUNT);
     int64_t g = subarrays == 0 ? 1 : subarrays, two = length_of(h, TESSARQUIN_PART_ARRAY_2);
     int words = tessarquin_field_word(h.bytes + TESSARQUIN_AT_COMM_TYPE, h.order) == TESSARQUIN_WORD;
-    const char *of = words ? "words" : "bytes";
     if (count < 1)
         fprintf(to, "WAVE_ARRAY_COUNT is %s", grouped(count));
     else if (subarrays < 0)
         fprintf(to, "SUBARRAY_COUNT is %s", grouped(subarrays));
     else if (count % g != 0)
-        fprintf(to, "%s points do not divide into %s segments", grouped(count), grouped(g));
-    else if (!part_differs(to, "WAVE_ARRAY_1", length_of(h, TESSARQUIN_PART_ARRAY_1), count, of, 1 + words)
-             && (two == 0 || !part_differs(to, "WAVE_ARRAY_2", two, count, of, 1 + words)))
+        fprintf(to, "%s cannot be shared by %s", counted(count, "point"), counted(g, "segment"));
+    else if (!part_differs(to, "WAVE_ARRAY_1", length_of(h, TESSARQUIN_PART_ARRAY_1), count, "sample", 1 + words)
+             && (two == 0 || !part_differs(to, "WAVE_ARRAY_2", two, count, "sample", 1 + words)))
         found_tables(to, h, g);
 }
 
@@ -182,7 +183,7 @@ static void found_index(FILE *to, struct head h)
     else if (factor < 0 || factor > 268435455)
         fprintf(to, "SPARSING_FACTOR is %s", grouped(factor));
     else
-        fprintf(to, "FIRST_POINT %s and SPARSING_FACTOR %s put the last of %s points at %s", grouped(first), grouped(factor), grouped(m), grouped(first + s * (m - 1)));
+        fprintf(to, "FIRST_POINT %s and SPARSING_FACTOR %s put the last of %s at %s", grouped(first), grouped(factor), counted(m, "point"), grouped(first + s * (m - 1)));
 }
 
 /* ---- the floats and the tables */
@@ -230,7 +231,7 @@ static void found_float(FILE *to, struct head h)
             return;
     }
     for (size_t i = 0; i < ristime.count; i++) {
-        snprintf(name, sizeof name, "RIS_OFFSET %s", grouped((int64_t)i));
+        snprintf(name, sizeof name, "RIS_OFFSET[%zu]", i);
         if (not_finite(to, name, double_of(h, ristime, i)))
             return;
     }
@@ -242,7 +243,9 @@ static void found_time(FILE *to, struct head h)
     for (size_t i = 2; i < trigtime.count; i += 2) {
         double before = double_of(h, trigtime, i - 2), time = double_of(h, trigtime, i);
         if (time < before) {
-            fprintf(to, "the TRIGGER_TIME of segment %s is %.17g, and that of segment %s is %.17g", grouped((int64_t)i / 2), before, grouped((int64_t)i / 2 + 1), time);
+            char one[DECIMAL_MOST + 1], other[DECIMAL_MOST + 1];
+            *put_decimal(one, before) = *put_decimal(other, time) = 0;
+            fprintf(to, "the TRIGGER_TIME of segment %s is %s, and that of segment %s is %s", grouped((int64_t)i / 2), one, grouped((int64_t)i / 2 + 1), other);
             return;
         }
     }
@@ -250,6 +253,8 @@ static void found_time(FILE *to, struct head h)
 
 void found_in_block(FILE *to, struct block b, uint32_t refusal)
 {
+    if (refusal <= TESSARQUIN_LENGTH && b.bytes != b.file.bytes)
+        fprintf(to, "behind %s ", counted(b.bytes - b.file.bytes, "byte"));
     switch (refusal) {
     case TESSARQUIN_FRAME: found_frame(to, b); break;
     case TESSARQUIN_LENGTH: found_length(to, b); break;

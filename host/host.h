@@ -7,9 +7,12 @@
 #include <stdio.h>
 #include <sys/types.h>
 
-/* ---- ends.c: how the program ends where something went wrong */
+/* ---- ends.c: what the program says, and how it ends where something went wrong */
 
 enum { REFUSED = 1, USAGE = 2, FAILED = 3 };
+
+/* One line on standard error. */
+void say(const char *format, ...) __attribute__((format(printf, 1, 2)));
 
 /* One line on standard error, then the end. */
 _Noreturn void fail(int status, const char *format, ...) __attribute__((format(printf, 2, 3)));
@@ -27,6 +30,7 @@ struct file {
     const char *name;
     uint8_t *bytes;
     size_t length;
+    int whole; /* whether these are all its bytes */
     dev_t device;
     ino_t inode;
 };
@@ -38,13 +42,12 @@ struct file read_file(const char *name, size_t most);
  * Writes all the bytes to `to`, which is never `from` itself.
  *
  * A regular file is written under another name beside it, flushed to the disk and renamed, so that it is there whole or
- * not at all. One that is there already is replaced only if `replace`; its mode stays, and a link to it stays a link.
+ * not at all. One that is there already is replaced only if `replace`, and not where it is read-only; its mode stays,
+ * and a link to it stays a link.
  * Pipes and devices are written to as they are (a disk only if `replace`), and "-" is standard output. Nothing is ever
  * removed but the other name.
- *
- * Answers 1 where the bytes went to a regular file, and 0 where they went to a pipe, a device or standard output.
  */
-int write_file(struct file from, const char *to, int replace, const uint8_t *bytes, size_t length);
+void write_file(struct file from, const char *to, int replace, const uint8_t *bytes, size_t length);
 
 /* ---- blocks.c: the block in a file, and what the library says of it */
 
@@ -95,13 +98,15 @@ struct asked {
     uint32_t array, segment, point, sp;
 };
 
-/* The end: one line with what is refused, its number, what was found there, and what can be done. */
+/* The end: one line with what is refused, its number, what was found there, and what can be done. `what` is what was
+   asked, with the words that lead to the file's name: "a cut of ". */
 _Noreturn void refuse_block(struct block block, uint32_t refusal);
 _Noreturn void refuse_question(const char *what, const struct opened *o, struct asked asked, uint32_t refusal);
 
 /* ---- show.c, points.c: the commands */
 
-void show(const char *name);
+/* Numbers that were worked out have so many digits. */
+void show(const char *name, int digits);
 
 /* How points are printed: as a table with a heading, or in plain lines; with so many digits, or 0 for as many as are
    needed to read the same number back. */
@@ -118,8 +123,14 @@ void print_points(const char *name, uint32_t array, const uint32_t *segment, str
    as \xNN: nothing that would move a terminal's cursor, hide a letter or turn the line around. */
 void write_text(FILE *to, const uint8_t *text, size_t length);
 
-/* How many bytes there are, for a message: 16,777,216. Each of the last eight answers stays. */
+/* A line of the program, whose words may be names that somebody typed: as above, but for the backslash; and its end. */
+void write_line(FILE *to, const char *text);
+
+/* A whole number with commas, as 16,777,216. Each of the last eight answers stays. */
 const char *grouped(int64_t n);
+
+/* So many of something: 1 point, 2 points. Each of the last four answers stays. */
+const char *counted(int64_t n, const char *what);
 
 /* The name of an enum's number, as the template has it, or the number. */
 const char *record_type(int n);

@@ -28,7 +28,7 @@ static double double_at(const struct opened *o, size_t at)
 
 static struct part text_at(const struct opened *o, size_t at, size_t most)
 {
-    return (struct part){o->payload + at, tessarquin_field_text(o->payload + at, most)};
+    return (struct part){o->payload + at, tessarquin_field_text_length(o->payload + at, most)};
 }
 
 /* The value or the time of a point, as the library answers it. */
@@ -37,7 +37,7 @@ static double point_of(const struct opened *o, uint32_t array, uint32_t segment,
     uint8_t answer[TESSARQUIN_POINT_BYTES];
     uint32_t refusal = tessarquin_point(o->block.bytes, o->block.length, array, segment, k, answer, sizeof answer);
     if (refusal)
-        refuse_question("the point", o, (struct asked){array, segment, k, 0}, refusal);
+        refuse_question("a point of ", o, (struct asked){array, segment, k, 0}, refusal);
     return tessarquin_double(answer, which);
 }
 
@@ -92,11 +92,26 @@ static void print_float_in(const char *name, float x, struct part unit)
     putchar('\n');
 }
 
-/* Numbers that were worked out have the six digits that an overview needs. */
+/* The digits of numbers that were worked out. */
+static int digits;
+
+/* Such a number; a zero has no sign. */
+static void print_double(double x)
+{
+    printf("%.*g", digits, x + 0.0);
+}
+
+static void print_double_in(double x, struct part unit)
+{
+    print_double(x);
+    print_unit(unit);
+}
+
 static void print_range(double from, double to, struct part unit)
 {
-    printf("%.6g to %.6g", from, to);
-    print_unit(unit);
+    print_double(from);
+    fputs(" to ", stdout);
+    print_double_in(to, unit);
 }
 
 /* ---- who, when, what */
@@ -113,14 +128,18 @@ static void show_label(const struct opened *o)
                                       (size_t)tessarquin_number(answer, TESSARQUIN_LABEL_LENGTH)});
 }
 
+/* Zero bytes that fill the text up to its length are not shown. */
 static void show_user_text(const struct opened *o)
 {
-    uint8_t answer[TESSARQUIN_TEXT_BYTES];
+    uint8_t answer[TESSARQUIN_USER_TEXT_BYTES];
     uint32_t refusal = tessarquin_user_text(o->block.bytes, o->block.length, answer, sizeof answer);
     if (refusal)
         refuse_block(o->block, refusal);
-    print_text("user text", (struct part){o->block.bytes + tessarquin_number(answer, TESSARQUIN_TEXT_START),
-                                          (size_t)tessarquin_number(answer, TESSARQUIN_TEXT_LENGTH)});
+    struct part text = {o->block.bytes + tessarquin_number(answer, TESSARQUIN_USER_TEXT_START),
+                        (size_t)tessarquin_number(answer, TESSARQUIN_USER_TEXT_LENGTH)};
+    while (text.length > 0 && text.bytes[text.length - 1] == 0)
+        text.length--;
+    print_text("user text", text);
 }
 
 static void show_instrument(const struct opened *o)
@@ -133,20 +152,29 @@ static void show_instrument(const struct opened *o)
     putchar('\n');
 }
 
-/* The date and the time of day as the instrument's clock had them; its numbers are carried, not judged. */
+static int days_in(int year, int month)
+{
+    static const int days[] = {31, 28, 31, 30, 31, 30, 31, 31, 30, 31, 30, 31};
+    int leap = year % 4 == 0 && (year % 100 != 0 || year % 400 == 0);
+    return days[month - 1] + (month == 2 && leap);
+}
+
+/* The date and the time of day as the instrument's clock had them. They are carried and not judged: what is no date is
+   printed number by number. Half a nanosecond before a full minute would be rounded to sixty seconds. */
 static void show_triggered(const struct opened *o)
 {
     const uint8_t *at = o->payload;
     int year = word_at(o, TESSARQUIN_AT_TRIGGER_YEAR), month = at[TESSARQUIN_AT_TRIGGER_MONTHS], day = at[TESSARQUIN_AT_TRIGGER_DAYS];
     int hour = at[TESSARQUIN_AT_TRIGGER_HOURS], minute = at[TESSARQUIN_AT_TRIGGER_MINUTES];
-    double second = double_at(o, TESSARQUIN_AT_TRIGGER_SECONDS);
+    double second = double_at(o, TESSARQUIN_AT_TRIGGER_SECONDS) + 0.0;
+    int dated = year >= 1 && year <= 9999 && month >= 1 && month <= 12 && day >= 1 && day <= days_in(year, month);
     print_name("triggered");
     if (year == 0 && month == 0 && day == 0 && hour == 0 && minute == 0 && second == 0)
         puts("(none)");
-    else if (second >= 0 && second < 60)
+    else if (dated && hour < 24 && minute < 60 && second >= 0 && second < 59.9999999995)
         printf("%04d-%02d-%02d %02d:%02d:%012.9f\n", year, month, day, hour, minute, second);
     else
-        printf("%04d-%02d-%02d %02d:%02d, seconds %g\n", year, month, day, hour, minute, second);
+        printf("no date: year %d, month %d, day %d, hour %d, minute %d, second %.12g\n", year, month, day, hour, minute, second);
 }
 
 static void show_record(const struct opened *o)
@@ -184,15 +212,32 @@ static void show_vertical(const struct opened *o, struct part unit)
 static void show_time_rule(const struct opened *o, struct part unit)
 {
     print_name("times by");
-    if (o->trigtime.length > 0)
-        printf("trigger times, one for each segment, %.9g s to %.9g s after the first trigger\n", trigger_time(o, 1), trigger_time(o, o->segments));
-    else if (o->ristime.length > 0)
-        printf("RIS, offsets of %s sweeps\n", grouped((int64_t)o->ristime.length / 8));
+    if (o->trigtime.length > 0) {
+        fputs(o->segments > 1 ? "trigger times, one for each segment, " : "trigger time, ", stdout);
+        print_double(trigger_time(o, 1));
+        if (o->segments > 1) {
+            fputs(" s to ", stdout);
+            print_double(trigger_time(o, o->segments));
+        }
+        puts(" s after the first trigger");
+    } else if (o->ristime.length > 0)
+        printf("RIS, offsets of %s\n", counted((int64_t)o->ristime.length / 8, "sweep"));
     else {
-        printf("horizontal offset, %.9g", double_at(o, TESSARQUIN_AT_HORIZ_OFFSET));
-        print_unit(unit);
+        fputs("horizontal offset, ", stdout);
+        print_double_in(double_at(o, TESSARQUIN_AT_HORIZ_OFFSET), unit);
         putchar('\n');
     }
+}
+
+/* From the first point to the last of the first segment. */
+static void show_span(const struct opened *o, struct part unit)
+{
+    double first = point_of(o, 1, 1, 0, TESSARQUIN_POINT_TIME), last = point_of(o, 1, 1, o->points - 1, TESSARQUIN_POINT_TIME);
+    print_name("span");
+    print_double_in(last - first, unit);
+    fputs(o->segments > 1 ? ", segment 1 from " : ", from ", stdout);
+    print_range(first, last, unit);
+    putchar('\n');
 }
 
 static void show_horizontal(const struct opened *o, struct part unit)
@@ -204,21 +249,17 @@ static void show_horizontal(const struct opened *o, struct part unit)
     print_float(interval);
     print_unit(unit);
     if (o->sparsing > 1) {
-        printf(", between points %.6g", between);
-        print_unit(unit);
+        fputs(", between points ", stdout);
+        print_double_in(between, unit);
     }
     putchar('\n');
-    print_name("span");
-    printf("%.6g", between * (o->points - 1));
-    print_unit(unit);
-    fputs(o->segments > 1 ? ", segment 1 from " : ", from ", stdout);
-    print_range(point_of(o, 1, 1, 0, TESSARQUIN_POINT_TIME), point_of(o, 1, 1, o->points - 1, TESSARQUIN_POINT_TIME), unit);
-    putchar('\n');
+    show_span(o, unit);
     print_name("rate");
     if (between == 0)
         fputs("(none)", stdout);
     else {
-        printf("%.6g points per", 1 / between);
+        print_double(1 / between);
+        fputs(" points per", stdout);
         print_unit(unit.length ? unit : (struct part){(const uint8_t *)"unit", 4});
     }
     putchar('\n');
@@ -237,8 +278,8 @@ struct place {
 static void print_place(const struct opened *o, uint32_t array, const char *name, struct place p, struct part unit)
 {
     uint32_t segment = (uint32_t)(p.at / o->points) + 1, k = (uint32_t)(p.at % o->points);
-    printf("%s %.6g", name, point_of(o, array, segment, k, TESSARQUIN_POINT_VALUE));
-    print_unit(unit);
+    printf("%s ", name);
+    print_double_in(point_of(o, array, segment, k, TESSARQUIN_POINT_VALUE), unit);
     if (o->segments > 1)
         printf(" (segment %s, point %s), ", grouped(segment), grouped(k));
     else
@@ -265,8 +306,19 @@ static void show_array(const struct opened *o, uint32_t array, struct part unit)
     printf("array %-11u", (unsigned)array);
     print_place(o, array, "least", gain < 0 ? highest : lowest, unit);
     print_place(o, array, "greatest", gain < 0 ? lowest : highest, unit);
-    printf("mean %.6g", (double)gain * ((double)sum / (double)count) - (double)offset);
-    print_unit(unit);
+    fputs("mean ", stdout);
+    print_double_in((double)gain * ((double)sum / (double)count) - (double)offset, unit);
+    putchar('\n');
+}
+
+/* The points that are good, over all segments: a roll or a sequence that was stopped has a rest that is not. */
+static void show_valid(const struct opened *o)
+{
+    int64_t first = long_at(o, TESSARQUIN_AT_FIRST_VALID_PNT), last = long_at(o, TESSARQUIN_AT_LAST_VALID_PNT);
+    int64_t count = (int64_t)o->points * o->segments;
+    printf("%-17s%s to %s", "valid points", grouped(first), grouped(last));
+    if (first > 0 || last < count - 1)
+        printf("; least, greatest and mean are of all %s", grouped(count));
     putchar('\n');
 }
 
@@ -275,18 +327,20 @@ static void show_arrays(const struct opened *o, struct part unit)
     printf("%-17s%s\n", "segments", grouped(o->segments));
     printf("%-17s%s\n", "segment index", grouped(o->index));
     printf("%-17s%s in each segment\n", "points", grouped(o->points));
+    show_valid(o);
     printf("%-17s%s, %s byte first\n", "samples", o->type == TESSARQUIN_WORD ? "words" : "bytes", o->order == TESSARQUIN_LOFIRST ? "low" : "high");
     for (uint32_t array = 1; array <= o->arrays; array++)
         show_array(o, array, unit);
 }
 
-void show(const char *name)
+void show(const char *name, int digits_of_results)
 {
+    digits = digits_of_results;
     struct opened o = open_block(read_block(name));
     struct part vertical = text_at(&o, TESSARQUIN_AT_VERTUNIT, TESSARQUIN_UNIT_BYTES);
     struct part horizontal = text_at(&o, TESSARQUIN_AT_HORUNIT, TESSARQUIN_UNIT_BYTES);
     struct part before = {o.block.file.bytes, (size_t)(o.block.bytes - o.block.file.bytes)};
-    printf("%-17s%s bytes\n", "block", grouped((int64_t)o.block.length));
+    printf("%-17s%s\n", "block", counted((int64_t)o.block.length, "byte"));
     if (before.length > 0)
         print_text("words before it", before);
     show_label(&o);

@@ -10,12 +10,15 @@
 static const char help[] =
     "trace " TESSARQUIN_VERSION ": reads LECROY_2_3 waveform files\n"
     "\n"
-    "    trace show FILE                                             what the file holds\n"
+    "    trace show [--digits N] FILE                                what the file holds\n"
     "    trace points [--csv] [--digits N] FILE [ARRAY [SEGMENT]]    its points, in volts and seconds\n"
     "    trace cut [-f] FILE OUT SP NP FP SN hi|lo                   a smaller file\n"
     "    trace --help | --version\n"
     "\n"
-    "FILE may be - for standard input. Up to 64 bytes before the # of a block, as an oscilloscope answers, are skipped.\n"
+    "FILE may be - for standard input. Words before the # of a block, as an oscilloscope answers, are skipped, where the #\n"
+    "is among the first 64 bytes. Behind -- nothing is an option.\n"
+    "\n"
+    "show gives numbers that were worked out six digits, or N.\n"
     "\n"
     "points prints a line for each point of array 1, or of ARRAY: segment, point, time, value. All segments, or SEGMENT\n"
     "(from 1 on) alone. Each number has as many digits as are needed to read the same number back; --digits N, from 1 to\n"
@@ -24,20 +27,36 @@ static const char help[] =
     "\n"
     "cut keeps every SP-th point of each segment from point FP on, at most NP of them (0: all), of segment SN alone (0: of\n"
     "all), and writes numbers with the high byte first (hi) or the low byte (lo). It never loses a file: OUT is there\n"
-    "whole or as it was, it is never FILE itself, and where it is there already only -f replaces it. OUT may be a pipe, or\n"
-    "- for standard output.\n"
+    "whole or as it was, it is never FILE itself, and where it is there already only -f replaces it, and not where it is\n"
+    "read-only. OUT may be a pipe, or - for standard output. What was written is told on standard error.\n"
     "\n"
     "It ends with 0; 1 where the file or what was asked of it is refused; 2 where it was called wrongly; 3 where a file or\n"
     "the memory failed, or OUT is in the way. What went wrong stands in one line on standard error.\n";
 
-static _Noreturn void called_wrongly(const char *why)
-{
-    fail(USAGE, "%s; trace --help tells how it is called", why);
-}
-
 static int is(const char *word, const char *other)
 {
     return strcmp(word, other) == 0;
+}
+
+/* ---- the words of a command */
+
+enum { CSV = 1, DIGITS = 2, FORCE = 4 };
+
+/* What stands behind the command's name. */
+struct line {
+    int count, csv, digits, replace;
+    const char *words[7];
+};
+
+struct command {
+    const char *name, *takes;
+    int least, most, options;
+    void (*run)(const struct line *line);
+};
+
+static _Noreturn void takes(const struct command *c)
+{
+    fail(USAGE, "%s takes %s; trace --help tells how it is called", c->name, c->takes);
 }
 
 static uint32_t number(const char *word)
@@ -46,107 +65,113 @@ static uint32_t number(const char *word)
     errno = 0;
     unsigned long long n = strtoull(word, &end, 10);
     if (!isdigit((unsigned char)*word) || *end || errno || n > UINT32_MAX)
-        fail(USAGE, "%s is not a number from 0 to 4294967295", word);
+        fail(USAGE, "%s is not a number from 0 to 4294967295", *word ? word : "an empty word");
     return (uint32_t)n;
 }
 
-/* ---- points [--csv] [--digits N] FILE [ARRAY [SEGMENT]] */
-
 static int digits(const char *word)
 {
-    uint32_t n = word ? number(word) : 0;
-    if (n < 1 || n > 17)
-        called_wrongly("--digits is from 1 to 17");
+    char *end;
+    unsigned long n = word && isdigit((unsigned char)*word) ? strtoul(word, &end, 10) : 0;
+    if (n < 1 || n > 17 || *end)
+        fail(USAGE, "--digits takes a number from 1 to 17; trace --help tells how it is called");
     return (int)n;
 }
 
-static void points_by(int count, char **words)
+/* A word with a - before it that is no number and not - itself. */
+static int is_option(const char *word)
 {
-    struct form form = {0, 0};
-    char *rest[3] = {NULL, NULL, NULL};
-    int files = 0;
-    for (int i = 0; i < count; i++) {
-        if (is(words[i], "--csv"))
-            form.csv = 1;
-        else if (is(words[i], "--digits"))
-            form.digits = digits(++i < count ? words[i] : NULL);
-        else if (strncmp(words[i], "--", 2) == 0)
-            fail(USAGE, "%s is not known; trace --help tells how it is called", words[i]);
-        else if (files < 3)
-            rest[files++] = words[i];
-        else
-            called_wrongly("points takes FILE, ARRAY and SEGMENT");
-    }
-    if (files == 0)
-        called_wrongly("points takes a FILE");
-    uint32_t array = rest[1] ? number(rest[1]) : 1, segment = rest[2] ? number(rest[2]) : 1;
-    print_points(rest[0], array, rest[2] ? &segment : NULL, form);
+    return word[0] == '-' && word[1] && !isdigit((unsigned char)word[1]);
 }
 
-/* ---- cut [-f] FILE OUT SP NP FP SN hi|lo */
+static struct line read_line(const struct command *c, int count, char **words)
+{
+    struct line line = {0};
+    int plain = 0;
+    for (int i = 0; i < count; i++) {
+        if (plain || !is_option(words[i])) {
+            if (line.count == c->most)
+                takes(c);
+            line.words[line.count++] = words[i];
+        } else if (is(words[i], "--"))
+            plain = 1;
+        else if (is(words[i], "--csv") && c->options & CSV)
+            line.csv = 1;
+        else if (is(words[i], "--digits") && c->options & DIGITS)
+            line.digits = digits(++i < count ? words[i] : NULL);
+        else if (is(words[i], "-f") && c->options & FORCE)
+            line.replace = 1;
+        else
+            fail(USAGE, "%s is not known to %s; trace --help tells how it is called", words[i], c->name);
+    }
+    if (line.count < c->least)
+        takes(c);
+    return line;
+}
 
-struct setup {
-    uint32_t sp, np, fp, sn, order;
-};
+/* ---- the commands */
+
+static void run_show(const struct line *line)
+{
+    show(line->words[0], line->digits ? line->digits : 6);
+}
+
+static void run_points(const struct line *line)
+{
+    uint32_t array = line->count > 1 ? number(line->words[1]) : 1, segment = line->count > 2 ? number(line->words[2]) : 1;
+    print_points(line->words[0], array, line->count > 2 ? &segment : NULL, (struct form){line->csv, line->digits});
+}
 
 static uint32_t order(const char *word)
 {
     if (!is(word, "hi") && !is(word, "lo"))
-        fail(USAGE, "%s is not hi or lo", word);
+        fail(USAGE, "%s is not hi or lo", *word ? word : "an empty word");
     return is(word, "lo") ? TESSARQUIN_LOFIRST : TESSARQUIN_HIFIRST;
 }
 
-static void cut(const char *name, const char *to, struct setup s, int replace)
+static void run_cut(const struct line *line)
 {
-    struct opened o = open_block(read_block(name));
+    const char *const *words = line->words, *to = words[1];
+    uint32_t sp = number(words[2]), np = number(words[3]), fp = number(words[4]), sn = number(words[5]), into = order(words[6]);
+    struct opened o = open_block(read_block(words[0]));
     struct block b = o.block;
     size_t room = b.length + TESSARQUIN_CUT_MORE;
-    uint8_t *out = memory(room);
-    uint8_t answer[TESSARQUIN_CUT_BYTES];
-    uint32_t refusal = tessarquin_cut(b.bytes, b.length, s.sp, s.np, s.fp, s.sn, s.order, out, room, answer, sizeof answer);
+    uint8_t *out = memory(room), answer[TESSARQUIN_CUT_BYTES];
+    uint32_t refusal = tessarquin_cut(b.bytes, b.length, sp, np, fp, sn, into, out, room, answer, sizeof answer);
     if (refusal)
-        refuse_question("the cut", &o, (struct asked){0, s.sn, s.fp, s.sp}, refusal);
+        refuse_question("a cut of ", &o, (struct asked){0, sn, fp, sp}, refusal);
     size_t length = (size_t)tessarquin_number(answer, TESSARQUIN_CUT_LENGTH);
-    int regular = write_file(b.file, to, replace, out, length);
-    /* Standard output may be where the block went. */
-    uint64_t kept = tessarquin_number(answer, TESSARQUIN_CUT_COUNT);
-    fprintf(regular ? stdout : stderr, "%s point%s of each segment kept, %s bytes written to %s\n", grouped((int64_t)kept),
-            kept == 1 ? "" : "s", grouped((int64_t)length), is(to, "-") ? "standard output" : to);
+    write_file(b.file, to, line->replace, out, length);
+    say("%s of each segment kept, %s written to %s", counted((int64_t)tessarquin_number(answer, TESSARQUIN_CUT_COUNT), "point"),
+        counted((int64_t)length, "byte"), is(to, "-") ? "standard output" : to);
 }
 
-static void cut_by(int count, char **words)
-{
-    int replace = count > 0 && is(words[0], "-f");
-    words += replace;
-    if (count != 7 + replace)
-        called_wrongly("cut takes FILE OUT SP NP FP SN hi|lo");
-    struct setup s = {number(words[2]), number(words[3]), number(words[4]), number(words[5]), order(words[6])};
-    cut(words[0], words[1], s, replace);
-}
-
-/* ---- the command line */
+static const struct command commands[] = {
+    {"show", "one FILE", 1, 1, DIGITS, run_show},
+    {"points", "FILE [ARRAY [SEGMENT]]", 1, 3, CSV | DIGITS, run_points},
+    {"cut", "FILE OUT SP NP FP SN hi|lo", 7, 7, FORCE, run_cut},
+};
 
 static void command(int count, char **words)
 {
-    for (int i = 0; i < count; i++)
+    for (int i = 0; i < count && !is(words[i], "--"); i++)
         if (is(words[i], "--help")) {
             fputs(help, stdout);
             return;
         }
     if (count == 0)
-        called_wrongly("nothing was asked");
-    else if (is(words[0], "--version") && count == 1)
+        fail(USAGE, "nothing was asked; trace --help tells how it is called");
+    if (is(words[0], "--version")) {
         puts("trace " TESSARQUIN_VERSION);
-    else if (is(words[0], "show") && count == 2)
-        show(words[1]);
-    else if (is(words[0], "show"))
-        called_wrongly("show takes one FILE");
-    else if (is(words[0], "points"))
-        points_by(count - 1, words + 1);
-    else if (is(words[0], "cut"))
-        cut_by(count - 1, words + 1);
-    else
-        fail(USAGE, "%s is not known; trace --help tells how it is called", words[0]);
+        return;
+    }
+    for (size_t i = 0; i < sizeof commands / sizeof *commands; i++)
+        if (is(words[0], commands[i].name)) {
+            struct line line = read_line(&commands[i], count - 1, words + 1);
+            commands[i].run(&line);
+            return;
+        }
+    fail(USAGE, "%s is not known; trace --help tells how it is called", *words[0] ? words[0] : "an empty word");
 }
 
 int main(int count, char **words)

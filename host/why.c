@@ -6,16 +6,15 @@
 
 static void found_in_question(FILE *to, const struct opened *o, struct asked asked, uint32_t refusal)
 {
-    const char *segments = grouped(o->segments), *points = grouped(o->points), *last = grouped((int64_t)o->points - 1);
     switch (refusal) {
     case TESSARQUIN_CHOICE:
-        fprintf(to, "it has %u array%s, and array %s was asked for", (unsigned)o->arrays, o->arrays == 1 ? "" : "s", grouped(asked.array));
+        fprintf(to, "it has %s, and array %s was asked for", counted(o->arrays, "array"), grouped(asked.array));
         break;
     case TESSARQUIN_SEGMENT:
-        fprintf(to, "it has %s segment%s, and segment %s was asked for", segments, o->segments == 1 ? "" : "s", grouped(asked.segment));
+        fprintf(to, "it has %s, and segment %s was asked for", counted(o->segments, "segment"), grouped(asked.segment));
         break;
     case TESSARQUIN_POINT:
-        fprintf(to, "a segment has %s point%s, 0 to %s, and point %s was asked for", points, o->points == 1 ? "" : "s", last, grouped(asked.point));
+        fprintf(to, "a segment has %s, from 0 on, and point %s was asked for", counted(o->points, "point"), grouped(asked.point));
         break;
     case TESSARQUIN_SPARSE:
         fprintf(to, "SP %s and S %s are too much together", grouped(asked.sp), grouped(o->sparsing));
@@ -52,13 +51,14 @@ static FILE *told_to(struct told *told)
     return to;
 }
 
-static _Noreturn void refuse(const char *what, uint32_t refusal, FILE *to, struct told *told)
+/* What is refused: the whole file, where `what` is empty, or something of it. */
+static _Noreturn void refuse(const char *what, const char *file, uint32_t refusal, FILE *to, struct told *told)
 {
     if (fclose(to) != 0)
         fail(FAILED, "no memory for a message");
     if (told->length == 0)
-        fail(REFUSED, "%s is refused (%u): %s", what, (unsigned)refusal, tessarquin_text(refusal));
-    fail(REFUSED, "%s is refused (%u): %s; %s", what, (unsigned)refusal, told->text, what_to_do(refusal));
+        fail(REFUSED, "%s%s is refused (%u): %s", what, file, (unsigned)refusal, tessarquin_text(refusal));
+    fail(REFUSED, "%s%s is refused (%u): %s; %s", what, file, (unsigned)refusal, told->text, what_to_do(refusal));
 }
 
 void refuse_block(struct block block, uint32_t refusal)
@@ -66,7 +66,7 @@ void refuse_block(struct block block, uint32_t refusal)
     struct told told;
     FILE *to = told_to(&told);
     found_in_block(to, block, refusal);
-    refuse(block.file.name, refusal, to, &told);
+    refuse("", block.file.name, refusal, to, &told);
 }
 
 void refuse_question(const char *what, const struct opened *o, struct asked asked, uint32_t refusal)
@@ -74,5 +74,5 @@ void refuse_question(const char *what, const struct opened *o, struct asked aske
     struct told told;
     FILE *to = told_to(&told);
     found_in_question(to, o, asked, refusal);
-    refuse(what, refusal, to, &told);
+    refuse(what, o->block.file.name, refusal, to, &told);
 }

@@ -2,6 +2,7 @@
 #include "host.h"
 
 #include <stdio.h>
+#include <string.h>
 
 /* ---- texts */
 
@@ -9,7 +10,7 @@
 static int shows_itself(uint32_t c)
 {
     static const struct { uint32_t from, to; } hidden[] = {
-        {0x0, 0x1F}, {'\\', '\\'}, {0x7F, 0x9F}, {0xAD, 0xAD}, {0x61C, 0x61C}, {0x180E, 0x180E}, {0x200B, 0x200F},
+        {0x0, 0x1F}, {0x7F, 0x9F}, {0xAD, 0xAD}, {0x61C, 0x61C}, {0x180E, 0x180E}, {0x200B, 0x200F},
         {0x2028, 0x202E}, {0x2060, 0x206F}, {0xD800, 0xDFFF}, {0xE000, 0xF8FF}, {0xFDD0, 0xFDEF}, {0xFE00, 0xFE0F},
         {0xFEFF, 0xFEFF}, {0xFFF0, 0xFFFB}, {0xFFFE, 0xFFFF}, {0xE0000, 0x10FFFF}};
     for (size_t i = 0; i < sizeof hidden / sizeof *hidden; i++)
@@ -35,16 +36,28 @@ static size_t character(const uint8_t *text, size_t length)
     return c >= least[bytes] && shows_itself(c) ? bytes : 0;
 }
 
-void write_text(FILE *to, const uint8_t *text, size_t length)
+/* The backslash, too, is written by its number where it would be taken for one that this wrote. */
+static void write_shown(FILE *to, const uint8_t *text, size_t length, int backslash)
 {
     size_t bytes;
     for (size_t i = 0; i < length; i += bytes ? bytes : 1) {
-        bytes = character(text + i, length - i);
+        bytes = text[i] == '\\' && !backslash ? 0 : character(text + i, length - i);
         if (bytes)
             fwrite(text + i, 1, bytes, to);
         else
             fprintf(to, "\\x%02X", text[i]);
     }
+}
+
+void write_text(FILE *to, const uint8_t *text, size_t length)
+{
+    write_shown(to, text, length, 0);
+}
+
+void write_line(FILE *to, const char *text)
+{
+    write_shown(to, (const uint8_t *)text, strlen(text), 1);
+    fputc('\n', to);
 }
 
 /* ---- whole numbers */
@@ -64,6 +77,15 @@ const char *grouped(int64_t n)
     if (n < 0)
         *--to = '-';
     return to;
+}
+
+const char *counted(int64_t n, const char *what)
+{
+    static char rooms[4][64];
+    static size_t next;
+    char *room = rooms[next++ % 4];
+    snprintf(room, sizeof rooms[0], "%s %s%s", grouped(n), what, n == 1 ? "" : "s");
+    return room;
 }
 
 /* ---- enums */

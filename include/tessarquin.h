@@ -36,10 +36,11 @@
  *     if (tessarquin_layout(block, block_len, layout, sizeof layout) == TESSARQUIN_OK) {
  *         const uint8_t *payload = block + tessarquin_number(layout, TESSARQUIN_LAYOUT_START);
  *         const uint8_t *unit = payload + TESSARQUIN_AT_VERTUNIT;
- *         printf("%.*s\n", (int)tessarquin_field_text(unit, TESSARQUIN_UNIT_BYTES), (const char *)unit);
+ *         printf("%.*s\n", (int)tessarquin_field_text_length(unit, TESSARQUIN_UNIT_BYTES), (const char *)unit);
  *     }
  *
- * Link with libtessarquin.a (x86-64, System V calls, no other library).
+ * Link with libtessarquin.a (x86-64, System V calls); it needs no other library, and the functions that are written out
+ * here need <string.h>.
  */
 #ifndef TESSARQUIN_H
 #define TESSARQUIN_H
@@ -66,7 +67,7 @@ extern "C" {
     X(FRAME, 1, "it does not start with #, a digit d from 1 to 9, and d digits",                                       \
       "hand over the bytes from the # on, as the instrument wrote them")                                               \
     X(LENGTH, 2, "the length in the header is not that of the data, or is not from 346 to 16,777,216",                 \
-      "fetch the block again, with all its bytes and at most one new line behind them")                                \
+      "fetch all its bytes again, with at most one new line behind them, or fewer points where it is too long")        \
     X(NAME, 3, "it is not a WAVEDESC block of the template LECROY_2_3",                                                \
       "read it with a program for its own template")                                                                   \
     X(FORM, 4, "COMM_ORDER or COMM_TYPE is neither of its two values",                                                 \
@@ -75,18 +76,18 @@ extern "C" {
       "fetch the block again: its descriptor is damaged, or a part is missing")                                        \
     X(COUNT, 6, "the counts of points and segments do not fit the lengths of arrays and tables",                       \
       "fetch the block again: its descriptor is damaged")                                                              \
-    X(INDEX, 7, "FIRST_POINT or SPARSING_FACTOR is out of range",                                                      \
-      "fetch the block again, with a smaller FP or SP: its last point has to stand at 268,435,455 or below")           \
+    X(INDEX, 7, "FIRST_POINT or SPARSING_FACTOR is below 0, or the factor or the last place is above 268,435,455",     \
+      "fetch the block again, with a smaller FP or SP where they were set")                                            \
     X(FLOAT, 8, "a gain, offset, interval or table entry is infinite or not a number",                                 \
       "fetch the block again: its descriptor or a table is damaged")                                                   \
     X(TIME, 20, "a TRIGGER_TIME is less than the one before it",                                                       \
       "fetch the block again: its segments are out of order, or their times are damaged")                              \
     X(CHOICE, 9, "there is no such array, or no such byte order",                                                      \
-      "ask for an array that is there, 1 or 2, or for byte order 0 or 1")                                              \
+      "ask for one that is there")                                                                                     \
     X(SEGMENT, 10, "there is no such segment",                                                                         \
-      "ask for a segment that is there, from 1 on; a cut takes 0 for all")                                             \
+      "ask for one that is there, from 1 on, or have a cut keep all by 0")                                             \
     X(POINT, 11, "there is no such point in a segment",                                                                \
-      "ask for a point that is there, from 0 on")                                                                      \
+      "ask for one that is there, from 0 on")                                                                          \
     X(SPARSE, 12, "the block is thinned too much already for this step",                                               \
       "cut with a smaller SP: its product with SPARSING_FACTOR has to be 268,435,455 or below")                        \
     X(ROOM, 13, "a slice lent for the answer is too short",                                                            \
@@ -160,13 +161,13 @@ uint32_t tessarquin_layout(const uint8_t *block, size_t block_len,
 /* ---- texts */
 
 /* The numbers that tessarquin_user_text answers. */
-enum tessarquin_text_number {
-    TESSARQUIN_TEXT_START, /* where the text starts in the block */
-    TESSARQUIN_TEXT_LENGTH /* how many bytes it has, or 0 where there is none */
+enum tessarquin_user_text_number {
+    TESSARQUIN_USER_TEXT_START, /* where the text starts in the block */
+    TESSARQUIN_USER_TEXT_LENGTH /* how many bytes it has, zeros among them, or 0 where there is no text */
 };
-#define TESSARQUIN_TEXT_BYTES 16u
+#define TESSARQUIN_USER_TEXT_BYTES 16u
 
-/* Where the user text stands: refusals as tessarquin_open, 13 if answer_len is below TESSARQUIN_TEXT_BYTES. */
+/* Where the user text stands: refusals as tessarquin_open, 13 if answer_len is below TESSARQUIN_USER_TEXT_BYTES. */
 uint32_t tessarquin_user_text(const uint8_t *block, size_t block_len,
                               uint8_t *answer, size_t answer_len);
 
@@ -199,6 +200,11 @@ enum tessarquin_point_number {
 /*
  * Point `point`, from 0 to M-1, of segment `segment`, from 1 to g, of array 1 or 2: refusals 1 to 8, 20,
  * 9 to 11, then 13 if answer_len is below TESSARQUIN_POINT_BYTES. The value and the time are each rounded once.
+ *
+ * With i = F + S k, the place of point k in the oscilloscope's trace buffer, the time is
+ *     HORIZ_INTERVAL times i, plus the segment's TRIGGER_OFFSET where the block has trigger times;
+ *     RIS_OFFSET j, plus HORIZ_INTERVAL times (i - j), where it has m RIS offsets, and j is the rest of i by m;
+ *     HORIZ_INTERVAL times i, plus HORIZ_OFFSET, where it has neither.
  *
  * Each call judges the whole block again, with the trigger times of all its segments. So whoever asks many points of a
  * block with many segments cuts the segment out first, in the order that tessarquin_open answers, and asks segment 1
@@ -248,7 +254,9 @@ enum tessarquin_cut_number {
  *     order  the byte order of the block written: TESSARQUIN_HIFIRST or TESSARQUIN_LOFIRST
  *
  * The block goes to out, with the header "#9" and no new line; room of block_len + TESSARQUIN_CUT_MORE is always
- * enough. What is written obeys the rules: no call refuses it by 1 to 8 or 20.
+ * enough. What is written obeys the rules: no call refuses it by 1 to 8 or 20. Changed are COMM_ORDER, the lengths of
+ * TRIGTIME and of the arrays, WAVE_ARRAY_COUNT, FIRST_POINT, SPARSING_FACTOR (0 becomes 1), and with sn SUBARRAY_COUNT
+ * and a SEGMENT_INDEX of 0; every other field is carried, LAST_VALID_PNT among them.
  * The kept points have their values and times bit for bit, and a cut of a cut is the one cut with sp the product,
  * fp = fp1 + sp1 * fp2, np the c of the second and sn that of the first, or of the second where the first is 0.
  */
@@ -361,7 +369,7 @@ enum tessarquin_field {
 #define TESSARQUIN_TRIGTIME_BYTES 16u
 
 /* How many bytes of a text field come before its first zero byte, or `bytes`, all that it has, where there is none. */
-static inline size_t tessarquin_field_text(const uint8_t *field, size_t bytes)
+static inline size_t tessarquin_field_text_length(const uint8_t *field, size_t bytes)
 {
     const void *zero = memchr(field, 0, bytes);
     return zero ? (size_t)((const uint8_t *)zero - field) : bytes;
@@ -376,7 +384,8 @@ static inline uint64_t tessarquin_field_bits(const uint8_t *field, size_t bytes,
     return bits;
 }
 
-/* A word or an enum; a long; a float; a double: each in the block's order, which tessarquin_open answers. */
+/* A word or an enum; a long; a float; a double: each in the block's order, which tessarquin_open answers (an order that
+   is not TESSARQUIN_HIFIRST is taken for TESSARQUIN_LOFIRST). A single byte is read as it stands. */
 static inline int16_t tessarquin_field_word(const uint8_t *field, uint64_t order)
 {
     return (int16_t)tessarquin_field_bits(field, 2, order);

@@ -187,7 +187,7 @@ static void test_parts(int order)
         start += lengths[i];
     }
     check(user_text(b, 15) == TESSARQUIN_ROOM && user_text(b, 16) == 0, "user text");
-    check(answers[TESSARQUIN_TEXT_START] == HEADER + 346 && answers[TESSARQUIN_TEXT_LENGTH] == 7, "the text stands elsewhere");
+    check(answers[TESSARQUIN_USER_TEXT_START] == HEADER + 346 && answers[TESSARQUIN_USER_TEXT_LENGTH] == 7, "the text stands elsewhere");
     unmap(b);
 }
 
@@ -195,7 +195,7 @@ static void test_labels(void)
 {
     now = "labels";
     struct slice b = make(0, 1, 1, 4, 0);
-    check(user_text(b, 24) == 0 && answers[TESSARQUIN_TEXT_START] == HEADER + 346 && answers[TESSARQUIN_TEXT_LENGTH] == 0, "no user text");
+    check(user_text(b, 24) == 0 && answers[TESSARQUIN_USER_TEXT_START] == HEADER + 346 && answers[TESSARQUIN_USER_TEXT_LENGTH] == 0, "no user text");
     for (uint64_t length = 0; length <= 16; length++) {
         memset(b.bytes + HEADER + 96, 0xFF, 16);
         if (length < 16)
@@ -285,7 +285,7 @@ static void test_headers(void)
         memcpy(b.bytes + start, nine.bytes + HEADER, payload);
         check(opens(b, 40) == 0 && answers[0] == 2 && answers[1] == 5 && answers[2] == 1 && answers[3] == 0 && answers[4] == 1, "open");
         check(layout(b, 200) == 0 && answers[TESSARQUIN_LAYOUT_START] == start && answers[TESSARQUIN_LAYOUT_STARTS] == 0, "layout");
-        check(user_text(b, 16) == 0 && answers[TESSARQUIN_TEXT_START] == start + 346, "user text");
+        check(user_text(b, 16) == 0 && answers[TESSARQUIN_USER_TEXT_START] == start + 346, "user text");
         for (uint32_t k = 0; k < 5; k++) {
             check(point(nine, 1, 2, k, 16) == 0, "a point is refused");
             uint64_t value = answers[0], time = answers[1];

@@ -113,10 +113,10 @@ static void test_floats(uint64_t order)
 static void test_texts(void)
 {
     static const uint8_t text[16] = "SIXTEEN BYTES ..";
-    check(tessarquin_field_text(text, 16) == 16, "a text without a zero byte", "it has another length");
-    check(tessarquin_field_text(text, 7) == 7, "a shorter field", "it has another length");
-    check(tessarquin_field_text((const uint8_t *)"C1\0old", 6) == 2, "a text", "it ends elsewhere than before its zero byte");
-    check(tessarquin_field_text((const uint8_t *)"", 1) == 0, "an empty text", "it has bytes");
+    check(tessarquin_field_text_length(text, 16) == 16, "a text without a zero byte", "it has another length");
+    check(tessarquin_field_text_length(text, 7) == 7, "a shorter field", "it has another length");
+    check(tessarquin_field_text_length((const uint8_t *)"C1\0old", 6) == 2, "a text", "it ends elsewhere than before its zero byte");
+    check(tessarquin_field_text_length((const uint8_t *)"", 1) == 0, "an empty text", "it has bytes");
 }
 
 static void test_answers(void)

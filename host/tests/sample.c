@@ -48,6 +48,7 @@ int main(void)
     put_text(block, 76, "LECROYWR64MXI-A");
     put(block, 1, 92, 4, 21834);
     put_text(block, 96, "BUS");
+    put(block, 1, 128, 4, SEGMENTS * POINTS - 1);
     put_float(block, 1, 156, 0.025f);
     put_float(block, 1, 160, 0.0f);
     put_float(block, 1, 176, 2e-7f);

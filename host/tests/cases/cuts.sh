@@ -46,7 +46,7 @@ for name in old link; do
     [ -L "$cuts/link" ] || wrong 'a link was replaced'
     cp "$folder/before" "$cuts/old"
 done
-refused 11 'a segment has 2 points, 0 to 1, and point 2 was asked for' 'the cut' cut -f "$example" "$cuts/old" 1 0 2 0 lo
+refused 11 'a segment has 2 points, from 0 on, and point 2 was asked for' "a cut of $example" cut -f "$example" "$cuts/old" 1 0 2 0 lo
 refused 1 'it is empty' /dev/null cut -f /dev/null "$cuts/old" "${setup[@]}"
 usage='trace: cut takes FILE OUT SP NP FP SN hi|lo; trace --help tells how it is called'
 expect 2 "$usage" cut -f "$example" "$cuts/old" 1 0 0 0
@@ -54,6 +54,26 @@ expect 2 "$usage" cut -f "$example" "$cuts/old" 1 0 0 0 lo more
 expect 2 'trace: up is not hi or lo' cut -f "$example" "$cuts/old" 1 0 0 0 up
 same "$cuts/old" "$folder/before" 'a refused cut wrote to OUT'
 left link old
+
+# a file that is read-only stays, with -f too; options stand anywhere, and behind -- nothing is one
+cp "$folder/before" "$cuts/old"
+chmod 444 "$cuts/old"
+expect 3 "trace: $cuts/old is read-only, and is left as it is" cut -f "$example" "$cuts/old" "${setup[@]}"
+same "$cuts/old" "$folder/before" 'a read-only file was written to'
+chmod 644 "$cuts/old"
+expect 0 "$(written "$cuts/old")" cut "$example" "$cuts/old" -f "${setup[@]}"
+same "$cuts/old" "$folder/good" 'with -f in the middle, old does not hold the cut'
+expect 2 "$usage" cut "$example" -f "${setup[@]}"
+expect 0 "$(written -f)" cut -- "$example" -f "${setup[@]}"
+expect 2 'trace: --csv is not known to cut; trace --help tells how it is called' cut --csv "$example" "$cuts/new" "${setup[@]}"
+left -f old
+
+# the line that tells of a cut is no part of it
+got=0
+"$trace" cut "$example" "$cuts/new" "${setup[@]}" >/dev/full 2>/dev/null || got=$?
+[ "$got" = 0 ] || wrong "a cut while standard output is full: $got"
+same "$cuts/new" "$folder/good" 'a cut while standard output is full is another'
+left new
 
 # OUT that cannot be, or leads nowhere
 ln -s nowhere "$cuts/link"
@@ -86,17 +106,15 @@ left file hard soft
 # what is not a regular file is written to and never removed
 mkfifo "$cuts/pipe"
 timeout 60 cat "$cuts/pipe" >"$folder/through" 2>/dev/null &
-expect 0 '' cut "$example" "$cuts/pipe" "${setup[@]}"
+expect 0 "$(written "$cuts/pipe")" cut "$example" "$cuts/pipe" "${setup[@]}"
 wait $!
 same "$folder/through" "$folder/good" 'another cut came through the pipe'
-[ "$(cat "$folder/err")" = "$(written "$cuts/pipe")" ] || wrong "a cut to a pipe says $(cat "$folder/err")"
-"$trace" cut "$example" - "${setup[@]}" >"$folder/through" 2>"$folder/err"
-same "$folder/through" "$folder/good" 'another cut came to standard output'
-[ "$(cat "$folder/err")" = "$(written 'standard output')" ] || wrong "a cut to standard output says $(cat "$folder/err")"
+expect 0 "$(written 'standard output')" cut "$example" - "${setup[@]}"
+same "$folder/out" "$folder/good" 'another cut came to standard output'
 ln -s /dev/null "$cuts/null"
 ln -s /dev/full "$cuts/full"
 for force in '' -f; do
-    expect 0 '' cut $force "$example" "$cuts/null" "${setup[@]}"
+    expect 0 "$(written "$cuts/null")" cut $force "$example" "$cuts/null" "${setup[@]}"
     expect 3 "trace: $cuts/full: No space left on device, after 0 of 358 bytes" cut $force "$example" "$cuts/full" "${setup[@]}"
 done
 [ -p "$cuts/pipe" ] && [ -c "$cuts/null" ] && [ -c "$cuts/full" ] || wrong 'a pipe or a device was removed'

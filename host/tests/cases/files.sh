@@ -47,8 +47,8 @@ for file in "$example" "$sample"; do
         same "$folder/out" "$folder/listed" "#$d has other points"
         for sn in 0 1; do
             rm -f "$folder/cut" "$folder/cut9"
-            "$trace" cut "$file" "$folder/cut9" 1 0 0 "$sn" hi >/dev/null
-            "$trace" cut "$folder/short" "$folder/cut" 1 0 0 "$sn" hi >/dev/null
+            "$trace" cut "$file" "$folder/cut9" 1 0 0 "$sn" hi 2>/dev/null
+            "$trace" cut "$folder/short" "$folder/cut" 1 0 0 "$sn" hi 2>/dev/null
             same "$folder/cut" "$folder/cut9" "#$d is cut to something else"
         done
         [ "$($run "$programs/first" <"$folder/short")" = "$($run "$programs/first" <"$file")" ] || wrong "the first program on #$d"
@@ -72,5 +72,9 @@ refused 2 'the header says 16,777,216 bytes and 16,777,218 follow' "$folder/long
 said=$($run "$programs/first" <"$folder/longest" || true)
 [ "${said#refused: the length in the header is not that of the data, }" != "$said" ] || wrong "the first program says of more than the longest block: $said"
 head -c 20000000 /dev/zero >"$folder/long"
-expect 1 "trace: $folder/long has more than 16,777,292 bytes, and no block has more than 16,777,228" show "$folder/long"
+refused 1 'no # in the first 64 bytes' "$folder/long" show "$folder/long"
+{ cat "$example"; cat "$folder/long"; } >"$folder/longest"
+refused 2 'the header says 348 bytes and at least 16,777,282 follow' "$folder/longest" show "$folder/longest"
+printf '#9020000000' | cat - "$folder/long" >"$folder/longest"
+refused 2 'the header says 20,000,000 bytes, and 16,777,216 are the most' "$folder/longest" show "$folder/longest"
 rm "$folder/longest" "$folder/long"

@@ -19,18 +19,26 @@ found 1 'no # in the first 64 bytes'
 expect 0 'block            359 bytes' show "$folder/damaged"
 bytes '#'
 found 1 'it ends with its #'
-bytes 'C1:WF ALL,#0WAVEDESC'
+bytes '#0WAVEDESC'
 found 1 'it starts with #0'
+bytes 'C1:WF ALL,#0WAVEDESC'
+found 1 'behind 10 bytes it goes on with #0'
+bytes 'x#'
+found 1 'behind 1 byte it ends with its #'
+bytes '<style>#3456{}'
+found 2 'behind 7 bytes the header says 456 bytes and 2 follow'
+bytes 'x'
+found 1 'no # in its 1 byte'
 bytes '#\033['
 found 1 'it starts with #\x1B'
 bytes '#9'
-found 1 'behind #9 stands nothing, not 9 digits'
+found 1 '#9 is followed by nothing, not by 9 digits'
 bytes '#61234'
-found 1 'behind #6 stands 1234, not 6 digits'
+found 1 '#6 is followed by 1234, not by 6 digits'
 bytes '#1x'
-found 1 'behind #1 stands x, not 1 digit'
+found 1 '#1 is followed by x, not by 1 digit'
 bytes '#900000X348'
-found 1 'behind #9 stands 00000X348, not 9 digits'
+found 1 '#9 is followed by 00000X348, not by 9 digits'
 bytes '#3345'
 found 2 'the header says 345 bytes, and the descriptor alone has 346'
 bytes '#9016777217'
@@ -67,6 +75,7 @@ broken 4 'the bytes of COMM_ORDER are 00 01, not 00 00 or 01 00' 34 '\0\1'
 broken 4 'the bytes of COMM_ORDER are 02 00, not 00 00 or 01 00' 34 '\2\0'
 broken 4 'COMM_TYPE is 7, not 0 or 1' 32 '\0\7'
 broken 4 'COMM_TYPE is -1, not 0 or 1' 32 '\377\377'
+broken 4 'COMM_TYPE is 256, not 0 or 1, and 1 in the other byte order than COMM_ORDER says' 34 '\1\0'
 broken 5 'WAVE_DESCRIPTOR is 345, not 346' 36 '\0\0\1\131'
 broken 5 'USER_TEXT is -1' 40 '\377\377\377\377'
 broken 5 'RES_DESC1 is 4, not 0' 44 '\0\0\0\4'
@@ -76,12 +85,12 @@ broken 5 'RES_ARRAY3 is 4, not 0' 72 '\0\0\0\4'
 broken 5 'the parts have 1,422 bytes and the payload has 398' 40 '\0\0\4\0'
 broken 6 'WAVE_ARRAY_COUNT is 0' 116 '\0\0\0\0'
 broken 6 'SUBARRAY_COUNT is -1' 144 '\377\377\377\377'
-broken 6 '10 points do not divide into 3 segments' 144 '\0\0\0\3'
-broken 6 'WAVE_ARRAY_1 has 20 bytes, and 12 words take 24' 116 '\0\0\0\014'
-broken 6 'WAVE_ARRAY_1 has 20 bytes, and 10 bytes take 10' 32 '\0\0'
-broken 6 'WAVE_ARRAY_2 has 2 bytes, and 10 words take 20' 48 '\0\0\0\036' 64 '\0\0\0\2'
-broken 6 'TRIGTIME_ARRAY has 16 bytes, and 2 segments take 32' 40 '\0\0\0\020' 48 '\0\0\0\020'
-broken 6 'RIS_TIME_ARRAY has 32 bytes, and 5 sweeps take 40' 48 '\0\0\0\0\0\0\0\040' 322 '\0\5'
+broken 6 '10 points cannot be shared by 3 segments' 144 '\0\0\0\3'
+broken 6 'WAVE_ARRAY_1 has 20 bytes, and 12 samples of 2 bytes would have 24' 116 '\0\0\0\014'
+broken 6 'WAVE_ARRAY_1 has 20 bytes, and 10 samples of 1 byte would have 10' 32 '\0\0'
+broken 6 'WAVE_ARRAY_2 has 2 bytes, and 10 samples of 2 bytes would have 20' 48 '\0\0\0\036' 64 '\0\0\0\2'
+broken 6 'TRIGTIME_ARRAY has 16 bytes, and 2 segments of 16 bytes would have 32' 40 '\0\0\0\020' 48 '\0\0\0\020'
+broken 6 'RIS_TIME_ARRAY has 32 bytes, and RIS_SWEEPS is 5' 48 '\0\0\0\0\0\0\0\040' 322 '\0\5'
 broken 6 'RISTIME stands beside 2 segments' 48 '\0\0\0\0\0\0\0\040' 322 '\0\4'
 broken 6 'RISTIME stands beside TRIGTIME' 48 '\0\0\0\020\0\0\0\020' 144 '\0\0\0\1' 322 '\0\2'
 broken 6 'SEGMENT_INDEX is -1' 140 '\377\377\377\377'
@@ -104,7 +113,7 @@ ris=(48 '\0\0\0\0\0\0\0\020' 322 '\0\2')
 patched "$folder/one" "${ris[@]}"
 expect 0 'block            397 bytes' show "$folder/damaged"
 patched "$folder/one" "${ris[@]}" 354 '\177\370\0\0\0\0\0\0'
-found 8 'RIS_OFFSET 1 is not a number'
+found 8 'RIS_OFFSET[1] is not a number'
 
 # a damaged sequence, segment 5 before segment 4: 1 in the fifth TRIGGER_TIME, where 500 stood
 $run "$programs/made" 0 1 6 4 1 >"$folder/six"
@@ -121,12 +130,12 @@ said=$($run "$programs/first" <"$folder/damaged" || true)
 
 # ---- what is asked of a good block
 
-refused 9 'it has 1 array, and array 2 was asked for' "$example" points "$example" 2
-refused 9 'it has 1 array, and array 0 was asked for' "$example" points "$example" 0 2
-refused 10 'it has 1 segment, and segment 2 was asked for' "$example" points "$example" 1 2
-refused 10 'it has 3 segments, and segment 0 was asked for' "$sample" points --csv "$sample" 1 0
-refused 10 'it has 3 segments, and segment 4 was asked for' 'the cut' cut "$sample" "$folder/none" 1 0 0 4 hi
-refused 11 'a segment has 16 points, 0 to 15, and point 16 was asked for' 'the cut' cut "$sample" "$folder/none" 1 0 16 0 hi
+refused 9 'it has 1 array, and array 2 was asked for' "a point of $example" points "$example" 2
+refused 9 'it has 1 array, and array 0 was asked for' "a point of $example" points "$example" 0 2
+refused 10 'it has 1 segment, and segment 2 was asked for' "a point of $example" points "$example" 1 2
+refused 10 'it has 3 segments, and segment 0 was asked for' "a point of $sample" points --csv "$sample" 1 0
+refused 10 'it has 3 segments, and segment 4 was asked for' "a cut of $sample" cut "$sample" "$folder/none" 1 0 0 4 hi
+refused 11 'a segment has 16 points, from 0 on, and point 16 was asked for' "a cut of $sample" cut "$sample" "$folder/none" 1 0 16 0 hi
 patched "$example" 136 '\0\341\365\5'
-refused 12 'SP 5 and S 100,000,000 are too much together' 'the cut' cut "$folder/damaged" "$folder/none" 5 0 0 0 hi
+refused 12 'SP 5 and S 100,000,000 are too much together' "a cut of $folder/damaged" cut "$folder/damaged" "$folder/none" 5 0 0 0 hi
 [ ! -e "$folder/none" ] || wrong 'a refused cut was written'

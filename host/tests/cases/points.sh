@@ -30,6 +30,17 @@ for shape in '0 0' '0 1' '1 0' '1 1'; do
     sed 's/ /,/g; s/^\([0-9]*\),.*/&,\100/' "$folder/expected" | cmp -s - <(tail -n +2 "$folder/out") || wrong "a sequence, order $order, type $type: another table"
 done
 
+# all segments of two arrays are the segments one by one; many of them take no longer a point than few
+$run "$programs/made" 1 0 60 4 1 >"$folder/sixty"
+patched "$folder/sixty" 60 '\170\0\0\0\170\0\0\0' 116 '\170\0\0\0'
+for array in 1 2; do
+    for n in {1..60}; do "$trace" points --csv "$folder/damaged" "$array" "$n" | tail -n +2; done >"$folder/expected"
+    "$trace" points --csv "$folder/damaged" "$array" | tail -n +2 | cmp -s - "$folder/expected" || wrong "array $array: the segments one by one are others"
+done
+$run "$programs/made" 1 0 200000 1 1 >"$folder/many"
+timeout 60 "$trace" points "$folder/many" | tail -n 1 >"$folder/out" || wrong 'many segments take too long'
+[ "$(cat "$folder/out")" = '200000 0 199999 -37.25' ] || wrong "the last of many segments: $(cat "$folder/out")"
+
 got=0
 "$trace" points "$folder/sequence" >/dev/full 2>"$folder/err" || got=$?
 [ "$got $(cat "$folder/err")" = '3 trace: standard output: No space left on device' ] || wrong "points to a full disk: $got, $(cat "$folder/err")"
@@ -42,14 +53,17 @@ expect 0 '1 0 -7.9999999999999996e-07 400.00000596046448' points "$sample" 1 1 -
 expect 0 'segment,point,time (S),value (V),trigger time (s)' points "$sample" --csv --digits 3
 [ "$(sed -n 19p "$folder/out")" = '2,1,-6.01e-07,401,0.0125' ] || wrong "three digits: $(sed -n 19p "$folder/out")"
 expect 0 'segment,point,time,value' points --csv "$example"
-for n in 0 18 4294967295; do
-    expect 2 'trace: --digits is from 1 to 17; trace --help tells how it is called' points --digits "$n" "$sample"
+for n in 0 18 4294967297 six 3x ''; do
+    expect 2 'trace: --digits takes a number from 1 to 17; trace --help tells how it is called' points --digits "$n" "$sample"
 done
-expect 2 'trace: six is not a number from 0 to 4294967295' points --digits six "$sample"
-expect 2 'trace: --digits is from 1 to 17; trace --help tells how it is called' points "$sample" --digits
-expect 2 'trace: --cvs is not known; trace --help tells how it is called' points --cvs "$sample"
-expect 2 'trace: points takes a FILE; trace --help tells how it is called' points --csv
-expect 2 'trace: points takes FILE, ARRAY and SEGMENT; trace --help tells how it is called' points "$sample" 1 1 1
+expect 2 'trace: --digits takes a number from 1 to 17; trace --help tells how it is called' points "$sample" --digits
+expect 2 'trace: --cvs is not known to points; trace --help tells how it is called' points --cvs "$sample"
+expect 2 'trace: points takes FILE [ARRAY [SEGMENT]]; trace --help tells how it is called' points --csv
+expect 2 'trace: points takes FILE [ARRAY [SEGMENT]]; trace --help tells how it is called' points "$sample" 1 1 1
+expect 2 'trace: an empty word is not a number from 0 to 4294967295' points "$sample" ''
+expect 0 '1 0 -8e-07 400.0000059604645' points -- "$sample"
+cp "$sample" "$folder/--csv"
+(cd "$folder" && "$trace" points -- --csv 1 1 | head -n 1 | grep -qx '1 0 -8e-07 400.0000059604645') || wrong 'a file that has the name of an option'
 
 # units with a comma or a quote have their cell in quotes; control bytes are shown by their numbers
 patched "$sample" 196 'V, "peak"\0' 244 '\316\274s\n\0'

@@ -37,6 +37,8 @@ shown "$sample" 96 '0123456789abcde\303'
 line label '0123456789abcde\xC3'
 shown "$sample" 346 'two\nlines\t'
 line 'user text' 'two\x0Alines\x09e, shutdown x3'
+shown "$sample" 356 '\0\0\0\0\0\0\0\0\0\0\0\0\0\0'
+line 'user text' 'half bridg'
 shown "$sample" 196 '\316\251\0'
 line gain '0.025 Ω'
 
@@ -61,13 +63,24 @@ line source '4, which has no name'
 shown "$sample" 296 '\0\0\0\0\0\0\0\0\0\0\1\1\266\7'
 line triggered '1974-01-01 00:00:00.000000000'
 shown "$sample" 296 '\0\0\0\0\0\300\130\100'
-line triggered '2026-03-14 09:26, seconds 99'
+line triggered 'no date: year 2026, month 3, day 14, hour 9, minute 26, second 99'
 shown "$sample" 296 '\0\0\0\0\0\0\370\177'
-line triggered '2026-03-14 09:26, seconds nan'
+line triggered 'no date: year 2026, month 3, day 14, hour 9, minute 26, second nan'
+shown "$sample" 296 '\0\0\0\0\0\0\0\200'
+line triggered '2026-03-14 09:26:00.000000000'
+shown "$sample" 296 '\377\377\377\377\377\377\115\100'
+line triggered 'no date: year 2026, month 3, day 14, hour 9, minute 26, second 60'
+for fields in '74 11 30 2 2024' '32 9 14 13 2026' '60 9 14 3 2026' '26 24 14 3 2026' '26 9 0 3 2026' '26 9 29 2 2026'; do
+    read -r minute hour day month year <<<"$fields"
+    shown "$sample" 304 "$(printf '\\%o\\%o\\%o\\%o\\%o\\%o' "$minute" "$hour" "$day" "$month" $((year % 256)) $((year / 256)))"
+    line triggered "no date: year $year, month $month, day $day, hour $hour, minute $minute, second 53.589793"
+done
+shown "$sample" 304 '\0\27\35\2\350\7'
+line triggered '2024-02-29 23:00:53.589793000'
 
 # thinned from point 4 on by 3 as segment 2: the place in the trace buffer, the interval between points, the span
 rm -f "$folder/thin"
-"$trace" cut "$sample" "$folder/thin" 3 0 4 2 hi >/dev/null
+"$trace" cut "$sample" "$folder/thin" 3 0 4 2 hi 2>/dev/null
 asked show "$folder/thin"
 line interval '2e-07 S, between points 6e-07 S'
 line span '1.8e-06 S, from -9.99991e-10 to 1.799e-06 S'
@@ -77,7 +90,7 @@ line 'sparsing S' 3
 line 'segment index' 2
 line segments 1
 line samples 'words, high byte first'
-line 'times by' 'trigger times, one for each segment, 0.0125 s to 0.0125 s after the first trigger'
+line 'times by' 'trigger time, 0.0125 s after the first trigger'
 
 # RIS; no interval; a falling gain; two arrays
 patched "$folder/one" 48 '\0\0\0\0\0\0\0\020' 322 '\0\2'
@@ -94,3 +107,15 @@ $run "$programs/made" 1 0 1 4 0 >"$folder/four"
 shown "$folder/four" 60 '\2\0\0\0\2\0\0\0' 116 '\2\0\0\0'
 line 'array 1' 'least -1.75 (point 0), greatest 1.75 (point 1), mean 0'
 line 'array 2' 'least 5.25 (point 0), greatest 8.75 (point 1), mean 7'
+
+# points that are not valid; zeros without a sign; digits
+shown "$sample" 128 '\7\0\0\0'
+line 'valid points' '0 to 7; least, greatest and mean are of all 48'
+shown "$example" 124 '\1\0\0\0\1\0\0\0' 156 '\0\0\0\200' 160 '\0\0\0\0' 180 '\0\0\0\0\0\0\0\200'
+line 'valid points' '1 to 1; least, greatest and mean are of all 2'
+line 'full range' '0 to 0 (samples -128 to 127)'
+line 'times by' 'horizontal offset, 0'
+asked show --digits 17 "$sample"
+line 'array 1' 'least 125.00000186264515 V (segment 3, point 15), greatest 401.85000598803163 V (segment 1, point 2), mean 318.36719224404078 V'
+asked show "$sample" --digits 2
+line 'array 1' 'least 1.3e+02 V (segment 3, point 15), greatest 4e+02 V (segment 1, point 2), mean 3.2e+02 V'

@@ -4,12 +4,24 @@
 expect 0 'trace 0.1: reads LECROY_2_3 waveform files' --help
 cp "$folder/out" "$folder/help"
 for words in 'show --help' 'points --help' 'cut --help' '--help show'; do
-    expect 0 "$(head -n 1 "$folder/help")" $words
+    asked $words
+    [ "$got" = 0 ] || wrong "trace $words: status $got"
     same "$folder/out" "$folder/help" "trace $words says something else"
 done
 expect 0 'trace 0.1' --version
+expect 0 'trace 0.1' --version x
 expect 2 'trace: nothing was asked; trace --help tells how it is called'
 expect 2 'trace: shw is not known; trace --help tells how it is called' shw "$sample"
+expect 2 'trace: an empty word is not known; trace --help tells how it is called' ''
+expect 2 'trace: --csv is not known to show; trace --help tells how it is called' show --csv "$sample"
+
+# names that somebody typed are shown as texts of a file are: one line, and no byte that a terminal takes for its own
+expect 3 "trace: $folder/no\\x1B[31m\\x0Aname ä: No such file or directory" show "$folder"/no$'\e[31m\nname ä'
+expect 2 'trace: \x07 is not known; trace --help tells how it is called' $'\a'
+cp "$sample" "$folder"/$'a\rb'
+expect 0 "16 points of each segment kept, 525 bytes written to $folder/c\\x0Dd" cut "$folder"/$'a\rb' "$folder"/$'c\rd' 1 0 0 0 lo
+printf x >"$folder"/$'a\rb'
+refused 1 'no # in its 1 byte' "$folder/a\\x0Db" show "$folder"/$'a\rb'
 expect 2 'trace: show takes one FILE; trace --help tells how it is called' show
 expect 2 'trace: show takes one FILE; trace --help tells how it is called' show "$sample" "$sample"
 
