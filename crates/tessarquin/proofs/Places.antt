@@ -14,7 +14,7 @@ use Rattle.rules.specs.Numbers.{Below, Bytes, number, numbers, startsFrom, allB
 use Rattle.rules.specs.Wave.{firstPoint, sparsing, segmentIndex, subarrayCount, lengthsOf, startsOf}
 use Rattle.rules.specs.Rules.{payloadStart, stated, payload, refusal, opened}
 use Rattle.rules.proofs.Numbers.{below-index, below-append}
-use Rattle.rules.proofs.Parts.{In, part-end}
+use Rattle.rules.proofs.Parts.{part-end}
 use Rattle.rules.proofs.Opened.{sized-opened, start-opened, length-payload, good-opened, tiling}
 use Rattle.block.specs.declared.Span.{Span}
 use Rattle.block.specs.Texts.{ofAccepted, Stands, textOf, textStart, traceLabel, upToZero, orOther, labelOf}

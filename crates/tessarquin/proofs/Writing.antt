@@ -1,7 +1,7 @@
--- Numbers of eight bytes at the start of a slice: those written one behind the other are one write (`numbers-then`), and they are read back (`numbers-read`).
+-- Numbers of eight bytes in a slice: those written one behind the other are one write (`numbers-then`), and they are read back (`numbers-read`).
 use mathlib.Core.Path.{_≡_, refl, sym, ap, _∙_}
 use mathlib.Core.List.{List, [], _∷_, _++_, flatten, append-nil, append-assoc}
-use Prim.Native.Nat.{ℕ, zero, suc, _+_, _*_, _^_, _≤_, _<_}
+use Prim.Native.Nat.{ℕ, _+_, _*_, _^_, _≤_, _<_}
 use native.Mathlib.Numerals.{add-one}
 use native.Mathlib.Omega.{arith}
 use lib.ListN.{length, take, drop, getD}
@@ -13,6 +13,7 @@ use Rattle.copies.proofs.Laws.{then}
 
 -- ---- one write behind another
 
+-- the bytes of two lists of numbers stand one behind the other
 pub allBytes-append : (o w : ℕ) (xs ys : List ℕ) → allBytes o w (xs ++ ys) ≡ allBytes o w xs ++ allBytes o w ys
 unfolding flatten
 allBytes-append o w [] ys = refl
@@ -24,10 +25,12 @@ unfolding flatten
 one-number n = sym (append-nil (bytes 0 8 n))
 
 module _ (l : List ℕ) (at : ℕ) where
+  -- numbers right behind n others
   pub numbers-then : (n : ℕ) (xs ys : List ℕ) → length xs ≡ n → at + n * 8 ≤ length l → splice (splice l at (allBytes 0 8 xs)) (at + n * 8) (allBytes 0 8 ys) ≡ splice l at (allBytes 0 8 (xs ++ ys))
   numbers-then n xs ys e h =
       then l at (n * 8) (allBytes 0 8 xs) (allBytes 0 8 ys) (length-allBytes 0 8 xs ∙ ap (λ (k : ℕ). k * 8) e) h ∙ ap (splice l at) (sym (allBytes-append 0 8 xs ys))
 
+  -- one number right behind n others
   pub number-then : (n : ℕ) (xs : List ℕ) (y : ℕ) → length xs ≡ n → at + n * 8 ≤ length l → splice (splice l at (allBytes 0 8 xs)) (at + n * 8) (bytes 0 8 y) ≡ splice l at (allBytes 0 8 (xs ++ (y ∷ [])))
   number-then n xs y e h = ap (splice (splice l at (allBytes 0 8 xs)) (at + n * 8)) (one-number y) ∙ numbers-then n xs (y ∷ []) e h
 
@@ -38,15 +41,17 @@ module _ (l : List ℕ) (at : ℕ) where
 
 -- ---- what stands at the start of a slice that was written
 
+-- the bytes themselves
 pub front : (bs slice : List ℕ) (n : ℕ) → length bs ≡ n → take n (splice slice 0 bs) ≡ bs
 front bs slice n e = take-at bs (drop (0 + length bs) slice) n e
 
+-- the numbers that they are
 pub numbers-read : (ns slice : List ℕ) → Below (256 ^ 8) ns → numbers 0 8 (length ns) (splice slice 0 (allBytes 0 8 ns)) ≡ ns
 numbers-read ns slice h =
     sym (numbers-take 0 8 (length ns) (length ns * 8) (splice slice 0 (allBytes 0 8 ns)) (omega arith))
     ∙ ap (numbers 0 8 (length ns)) (front (allBytes 0 8 ns) slice (length ns * 8) (length-allBytes 0 8 ns)) ∙ numbers-allBytes 0 8 ns h
 
--- the first of them alone, and what stands behind these
+-- the first of them alone (`numbers-before`), and what stands behind these (`numbers-behind`)
 module _ (xs ys slice : List ℕ) where
   apart : splice slice 0 (allBytes 0 8 (xs ++ ys)) ≡ allBytes 0 8 xs ++ (allBytes 0 8 ys ++ drop (length (xs ++ ys) * 8) slice)
   apart =

@@ -1,7 +1,7 @@
 // The three calls for a host in C that say where parts of a block stand: the layout, the user text and the label.
 use block::Opened;
 ghost use mathlib.Core.Path.{_≡_};
-ghost use mathlib.Core.List.{[], _∷_, _++_};
+ghost use mathlib.Core.List.{_∷_, _++_};
 ghost use Prim.Native.Nat.{_+_, _≤_};
 ghost use lib.ListN.{length};
 ghost use Rattle.rules.specs.Numbers.{allBytes, splice};

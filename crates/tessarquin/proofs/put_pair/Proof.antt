@@ -8,9 +8,6 @@ use Rattle.tessarquin.proofs.Writing.{one-number, number-then}
 use borrow.Author.Needs.{needs}
 use Rattle.tessarquin.proofs.put_pair.Statement.{statement}
 use Rattle.tessarquin.proofs.put_pair.Tie as tie
-use Rattle.tessarquin.proofs.put_pair.Reads as reads
-use Rattle.tessarquin.proofs.put_pair.Lts as lts
-use Rattle.numbers.proofs.put_u64.Reads as put-u64-reads
 
 add-next : tie.Need-add-next
 add-next c = search needs

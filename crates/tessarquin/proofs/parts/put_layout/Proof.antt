@@ -8,10 +8,6 @@ use Rattle.tessarquin.proofs.Writing.{numbers-then}
 use borrow.Author.Needs.{needs}
 use Rattle.tessarquin.proofs.parts.put_layout.Statement.{statement}
 use Rattle.tessarquin.proofs.parts.put_layout.Tie as tie
-use Rattle.tessarquin.proofs.parts.put_layout.Reads as reads
-use Rattle.tessarquin.proofs.parts.put_layout.Lts as lts
-use Rattle.tessarquin.proofs.parts.put_ten.Reads as put-ten-reads
-use Rattle.tessarquin.proofs.put_five.Reads as put-five-reads
 
 cast-put-five : tie.Need-cast-put-five
 cast-put-five c = search needs

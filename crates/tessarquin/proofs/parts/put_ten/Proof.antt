@@ -11,9 +11,6 @@ use Rattle.tessarquin.proofs.Writing.{number-next}
 use borrow.Author.Needs.{needs}
 use Rattle.tessarquin.proofs.parts.put_ten.Statement.{statement}
 use Rattle.tessarquin.proofs.parts.put_ten.Tie as tie
-use Rattle.tessarquin.proofs.parts.put_ten.Reads as reads
-use Rattle.tessarquin.proofs.parts.put_ten.Lts as lts
-use Rattle.numbers.proofs.put_u64.Reads as put-u64-reads
 
 abbrev Inv-loop : tie.InvT-loop
 Inv-loop out₀ at ten i₀ out i = (i ≤ 10) × (length out ≡ length out₀) × (out ≡ splice out₀ at (allBytes 0 8 (take i ten)))

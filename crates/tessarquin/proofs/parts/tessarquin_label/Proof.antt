@@ -1,6 +1,6 @@
 -- Refused by the opening, without room, or answered by the fallback whole or by the span of the block's own label.
 use mathlib.Core.Path.{_≡_, sym, ap, _∙_}
-use mathlib.Core.List.{List, [], _∷_}
+use mathlib.Core.List.{List}
 use Prim.Native.Nat.{ℕ}
 use native.Mathlib.Omega.{arith}
 use Rattle.rules.specs.Numbers.{splice}
@@ -11,11 +11,6 @@ use Rattle.tessarquin.proofs.Slices.{label-length, label-other, label-o
 use borrow.Author.Needs.{needs}
 use Rattle.tessarquin.proofs.parts.tessarquin_label.Statement.{statement}
 use Rattle.tessarquin.proofs.parts.tessarquin_label.Tie as tie
-use Rattle.tessarquin.proofs.parts.tessarquin_label.Reads as reads
-use Rattle.tessarquin.proofs.parts.tessarquin_label.Lts as lts
-use Rattle.block.proofs.open.Reads as open-reads
-use Rattle.block.proofs.label_span.Reads as label-span-reads
-use Rattle.tessarquin.proofs.put_three.Reads as put-three-reads
 
 accepts : (c : tie.Else1) → refusal (c .before .before .before .before .before .before .args .block .now) ≡ 0
 accepts c = sym (number-is (c .before .before .before .before .before .before .args .block .now) (c .before .before .«open» .result) (c .before .before .«open» .ensures)) ∙ c .if1 .left

@@ -14,10 +14,6 @@ use Rattle.tessarquin.proofs.Slices.{layout-length, own-refused, own-sh
 use borrow.Author.Needs.{needs}
 use Rattle.tessarquin.proofs.parts.tessarquin_layout.Statement.{statement}
 use Rattle.tessarquin.proofs.parts.tessarquin_layout.Tie as tie
-use Rattle.tessarquin.proofs.parts.tessarquin_layout.Reads as reads
-use Rattle.tessarquin.proofs.parts.tessarquin_layout.Lts as lts
-use Rattle.block.proofs.open.Reads as open-reads
-use Rattle.tessarquin.proofs.parts.put_layout.Reads as put-layout-reads
 
 module _ (c : tie.Else1) where
   accepts : refusal (c .before .before .before .before .before .args .block .now) ≡ 0
