@@ -42,19 +42,20 @@ list: need-kit $(if $(RUN),need-c)
 	@rt check listing >target/listing.log 2>&1 || { cat target/listing.log; exit 1; }
 	@$(LISTING) <'$(FILE)'
 
-# The last line is that of rt ci. What it proved is not proved again for the archive.
+# The last line is that of rt ci. What it proved is not proved again, but for the crates of the three archives.
 test: need-tests
 	@rt fmt --check
 	@log=$$(mktemp); trap 'rm -f "$$log"' EXIT; rt ci | tee "$$log"; $(MAKE) checked; tail -n 1 "$$log"
 
-archive: archive-tessarquin
+archive: $(ARCHIVE)
 
-archive-%: need-kit
+# Proved again where a file of a crate is newer.
+target/staticlib/lib%.a: crates.txt $(shell find crates -name '*.rt' -o -name '*.antt') | need-kit
 	@mkdir -p target
 	@rt staticlib $* >target/archive.log 2>&1 || { cat target/archive.log; exit 1; }
 
 # Where the machine is not x86-64, `trace` is a script that starts the program by the emulator.
-host: need-c archive
+host: need-c $(ARCHIVE)
 	@mkdir -p target/host
 	@$(CC) $(CFLAGS) $(HOST) $(ARCHIVE) -o target/host/trace$(if $(RUN),.x86-64)
 	@$(if $(RUN),cp host/emulated target/host/trace)
@@ -90,7 +91,7 @@ listed: need-kit target/host/made
 	@host/tests/listed/run '$(LISTING)' '$(RUN) target/host/made' crates/listing
 
 # The independent reader and the runner that makes the calls, those that are not in the library among them.
-compare: need-tests archive archive-measured archive-compared
+compare: need-tests $(ARCHIVE) $(MEASURED) $(COMPARED)
 	@cargo build -q $(CARGO) --workspace
 	@$(CC) $(CFLAGS) tests/runner.c $(ARCHIVE) $(MEASURED) $(COMPARED) -o target/tests/runner
 
@@ -98,7 +99,7 @@ soak: compare
 	@target/tests/release/compare --cases $(N) --seed $(SEED) -- $(RUN) target/tests/runner
 
 # Counted by the emulator on every machine; where the machine is x86-64, times stand beside the counts.
-bench: need-count archive archive-measured
+bench: need-count $(ARCHIVE) $(MEASURED)
 	@mkdir -p target/bench
 	@gcc -O2 -Wall -Wextra -Werror -fPIC -shared bench/count.c -o target/bench/count.so
 	@$(CC) -std=gnu11 -O3 -Wall -Wextra -Werror -c bench/same.c -o target/bench/same.o
