@@ -65,13 +65,15 @@ target/host/%: host/tests/%.c host/tests/blocks.h include/tessarquin.h | need-c
 	@mkdir -p target/host
 	@$(CC) $(CFLAGS) $< -o $@
 
-# The program that README prints, the calls at the end of a page, the header's readers, the host program (faults.c says
-# which calls go wrong in a second copy of it), and the independent reader.
+# The program that README prints, the lines that the header prints, the calls at the end of a page, the header's readers,
+# the host program (faults.c says which calls go wrong in a second copy of it), and the independent reader.
 checked: WRAPPED := open write fsync close rename renameat2 tessarquin_point
 checked: need-tests host target/host/made target/host/sample target/host/table target/host/fields
 	@awk '/^```c$$/ { on = 1; next } /^```$$/ { on = 0 } on' README.md >target/host/first.c
 	@$(CC) $(CFLAGS) target/host/first.c $(ARCHIVE) -o target/host/first
 	@$(CXX) -std=c++17 -Wall -Wextra -Werror -Iinclude -fsyntax-only -x c++ target/host/first.c
+	@sed -n '/^ \*     uint8_t layout/,/^ \*     }/s/^ \*     //p' include/tessarquin.h >target/host/printed.h
+	@$(CC) $(CFLAGS) -Itarget/host host/tests/unit.c $(ARCHIVE) -o target/host/unit
 	@$(CC) $(CFLAGS) host/tests/calls.c $(ARCHIVE) -o target/host/calls
 	@$(RUN) target/host/calls
 	@$(RUN) target/host/fields

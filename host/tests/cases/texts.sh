@@ -53,6 +53,8 @@ done < <(awk '/^```console$/ { on = 1; next } on; /^```$/ { on = 0 }' README.md)
 [ "$commands" -ge 3 ] || wrong "README has $commands commands"
 grep -qF "prints \`$($run "$programs/first" <"$sample")\`, the first point of the sample" README.md || wrong 'the first program prints something else than README says'
 
+[ "$($run "$programs/unit" <"$sample")" = V ] || wrong "the lines of the header print $($run "$programs/unit" <"$sample")"
+
 # ---- where the machine is not x86-64, `trace` is a script; a link to it starts the same program
 
 mkdir "$folder/started"
