@@ -12,7 +12,7 @@
  *     links      a file system with links, but without the rename that replaces nothing
  *     between    both: OUT comes to be on such a file system
  *     swapped    a file stands where a pipe did, just before it is opened
- *     count      tells at the end how many questions were asked of blocks of more than 1,000 bytes
+ *     count      tells at the end how many points, fills and cuts were asked of blocks of more than 1,000 bytes
  */
 #define _GNU_SOURCE
 #include "tessarquin.h"
@@ -33,6 +33,10 @@ int __real_rename(const char *from, const char *to);
 int __real_renameat2(int from_folder, const char *from, int to_folder, const char *to, unsigned flags);
 uint32_t __real_tessarquin_point(const uint8_t *block, size_t block_len, uint32_t array, uint32_t segment, uint32_t point,
                                  uint8_t *answer, size_t answer_len);
+uint32_t __real_tessarquin_fill(const uint8_t *block, size_t block_len, uint32_t array, uint32_t segment, uint8_t *answer,
+                                size_t answer_len);
+uint32_t __real_tessarquin_cut(const uint8_t *block, size_t block_len, uint32_t sp, uint32_t np, uint32_t fp, uint32_t sn,
+                               uint32_t order, uint8_t *out, size_t out_len, uint8_t *answer, size_t answer_len);
 
 static int fault(const char *word)
 {
@@ -108,10 +112,29 @@ static void tell(void)
     fprintf(stderr, "%lu questions\n", questions);
 }
 
-uint32_t __wrap_tessarquin_point(const uint8_t *block, size_t block_len, uint32_t array, uint32_t segment, uint32_t point,
-                                 uint8_t *answer, size_t answer_len)
+static void ask(size_t block_len)
 {
     if (fault("count") && block_len > 1000 && questions++ == 0)
         atexit(tell);
+}
+
+uint32_t __wrap_tessarquin_point(const uint8_t *block, size_t block_len, uint32_t array, uint32_t segment, uint32_t point,
+                                 uint8_t *answer, size_t answer_len)
+{
+    ask(block_len);
     return __real_tessarquin_point(block, block_len, array, segment, point, answer, answer_len);
+}
+
+uint32_t __wrap_tessarquin_fill(const uint8_t *block, size_t block_len, uint32_t array, uint32_t segment, uint8_t *answer,
+                                size_t answer_len)
+{
+    ask(block_len);
+    return __real_tessarquin_fill(block, block_len, array, segment, answer, answer_len);
+}
+
+uint32_t __wrap_tessarquin_cut(const uint8_t *block, size_t block_len, uint32_t sp, uint32_t np, uint32_t fp, uint32_t sn,
+                               uint32_t order, uint8_t *out, size_t out_len, uint8_t *answer, size_t answer_len)
+{
+    ask(block_len);
+    return __real_tessarquin_cut(block, block_len, sp, np, fp, sn, order, out, out_len, answer, answer_len);
 }
