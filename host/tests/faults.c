@@ -80,8 +80,10 @@ ssize_t __wrap_write(int file, const void *bytes, size_t length)
 
 int __wrap_fsync(int file)
 {
-    if (fault("interrupt"))
+    if (fault("interrupt")) {
+        signal(SIGINT, SIG_DFL); /* a shell starts what runs in the background with it ignored */
         raise(SIGINT);
+    }
     return fault("flush") ? failed(EIO) : __real_fsync(file);
 }
 
