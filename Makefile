@@ -9,7 +9,7 @@
 SHELL := /bin/bash
 .SHELLFLAGS := -eu -o pipefail -c
 MAKEFLAGS += --no-print-directory
-.PHONY: list test archive host checked listed compare soak bench fmt need-kit need-c need-tests need-count
+.PHONY: list test archive host checked listed compare soak bench fmt need-kit need-c need-compare need-tests need-count
 
 # The compiled code is for x86-64: elsewhere it is linked by a cross compiler and run by an emulator.
 ifeq ($(shell uname -m),x86_64)
@@ -93,7 +93,7 @@ listed: need-kit target/host/made
 	@host/tests/listed/run '$(LISTING)' '$(RUN) target/host/made' crates/listing
 
 # The independent reader and the runner that makes the calls, those that are not in the library among them.
-compare: need-tests $(ARCHIVE) $(MEASURED) $(COMPARED)
+compare: need-compare $(ARCHIVE) $(MEASURED) $(COMPARED)
 	@cargo build -q $(CARGO) --workspace
 	@$(CC) $(CFLAGS) tests/runner.c $(ARCHIVE) $(MEASURED) $(COMPARED) -o target/tests/runner
 
@@ -117,8 +117,11 @@ need-kit:
 need-c: need-kit
 	@tools/need $(NEED_C)
 
-need-tests: need-kit
-	@tools/need $(NEED_C) $(NEED_CXX) cargo:cargo
+need-compare: need-c
+	@tools/need cargo:cargo
+
+need-tests: need-compare
+	@tools/need $(NEED_CXX)
 
 need-count: need-kit
 	@tools/need $(NEED_C) gcc:gcc qemu-x86_64:qemu-user

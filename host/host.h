@@ -51,7 +51,7 @@ void write_file(struct file from, const char *to, int replace, const uint8_t *by
 
 /* ---- blocks.c: the block in a file, and what the library says of it */
 
-/* Words such as "C1:WF ALL," that an oscilloscope answers before the block have so many bytes at most. */
+/* The # of a block is looked for in so many bytes: words such as "C1:WF ALL," that an oscilloscope answers stand before it. */
 #define WORDS_MOST ((size_t)64)
 
 struct block {

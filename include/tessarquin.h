@@ -4,7 +4,8 @@
  * A block is what an oscilloscope answers to WF? with COMM_FORMAT DEF9: the bytes "#9", nine decimal digits that
  * give the payload's length, the payload (346 bytes of descriptor, texts, tables, samples), and at most one new line.
  * Loggers write shorter headers of the same kind: '#', a digit d from 1 to 9, and d digits. All are taken, leading
- * zeros too, and none changes an answer but where the payload starts: with the '#' as byte 0, at byte 2 + d.
+ * zeros too, and none changes an answer, but that places in the block move with the payload: with the '#' as byte 0 it
+ * starts at byte 2 + d.
  * Whatever stands before the '#' is for the caller to remove.
  *
  * Seven calls, each proved to meet its description for every input:

@@ -82,7 +82,7 @@ needs "$folder/bin" rt:
 [ "$got $(cat "$folder/out")" = '1 missing: rt; no package has it, README says what it is' ] || wrong "no kit: $got, $(cat "$folder/out")"
 needs "$folder/bin" cat:coreutils gcc:gcc
 [ "$got $(cat "$folder/out")" = "1 missing: gcc
-install what has it, then try again: sudo apt-get install -y gcc" ] || wrong "no apt-get: $got, $(cat "$folder/out")"
+install what has it as root, then try again: apt-get update && apt-get install -y gcc" ] || wrong "no apt-get: $got, $(cat "$folder/out")"
 needs "$folder/bin" bash: cat:coreutils
 [ "$got $(cat "$folder/out")" = '0 ' ] || wrong "nothing is missing: $got, $(cat "$folder/out")"
 printf '#!/usr/bin/env bash\necho "$*" >>"%s"\n' "$folder/installed" >"$folder/bin/apt-get"
@@ -91,6 +91,6 @@ chmod +x "$folder/bin/apt-get" "$folder/root"
 mv "$folder/root" "$folder/bin/id"
 needs "$folder/bin" gcc:gcc cat:coreutils qemu-x86_64:qemu-user
 [ "$got $(cat "$folder/out")" = "0 missing: gcc qemu-x86_64
-installing: apt-get install -y gcc qemu-user" ] || wrong "installing: $got, $(cat "$folder/out")"
+installing: apt-get update && apt-get install -y gcc qemu-user" ] || wrong "installing: $got, $(cat "$folder/out")"
 [ "$(cat "$folder/installed")" = 'update
 install -y gcc qemu-user' ] || wrong "installed: $(cat "$folder/installed")"
