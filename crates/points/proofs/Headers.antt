@@ -11,7 +11,7 @@ use borrow.Author.Tests.{ltb-true, ltb-false}
 use Rattle.rules.specs.Numbers.{Bytes, upFrom}
 use Rattle.rules.specs.Wave.{Wave, points}
 use Rattle.rules.specs.Rules.{opened}
-use Rattle.rules.specs.Points.{value, walkRefusal}
+use Rattle.rules.specs.Points.{value, markCount, walkRefusal}
 use Rattle.rules.proofs.Headers.{SameAnswers}
 use Rattle.points.specs.declared.answers.Point as answers
 use Rattle.points.specs.declared.answers.Filled.{Filled}
@@ -25,7 +25,7 @@ use Rattle.points.proofs.Walking.{walk-steps, walk-ends, walk-refused, 
 module _ (s t : List ℕ) (e : SameAnswers s t) where
   same-answer : (a n k : ℕ) → pointAs t a n k ≡ pointAs s a n k
   unfolding pointAs
-  same-answer a n k = let p = e .same-point a n k in λ i. pointBy (p .0 i) (p .1 i) (p .2 i)
+  same-answer a n k = let p = e .same-point a n k in λ i. pointBy (p .0 i) (p .1 i) (p .2 i) (p .3 i)
 
   pub point-same : (a n k : ℕ) (x y : answers.Point) → PointCall s a n k x → PointCall t a n k y → y ≡ x
   point-same a n k x y p q = q .2 ∙ same-answer a n k ∙ sym (p .2)
@@ -36,7 +36,7 @@ module _ (s t : List ℕ) (e : SameAnswers s t) where
   fill-same a n out x y left last p q =
       let r = e .same-fill a n (length out) in
       let w = e .same-wave in
-      (q .3 .0 ∙ (λ i. filledBy (r i) (points (w i .head))) ∙ sym (p .3 .0), q .3 .1 ∙ (λ i. outBy (r i) (map (value (w i) a n) (upFrom 0 (points (w i .head))) ++ drop (points (w i .head)) out) out) ∙ sym (p .3 .1))
+      (q .3 .0 ∙ (λ i. filledBy (r i) (points (w i .head)) (markCount (w i) a n)) ∙ sym (p .3 .0), q .3 .1 ∙ (λ i. outBy (r i) (map (value (w i) a n) (upFrom 0 (points (w i .head))) ++ drop (points (w i .head)) out) out) ∙ sym (p .3 .1))
 
   -- a walk's step after k others, and `walked` at k
   module _ (bs : Bytes s) (bt : Bytes t) (a n k : ℕ) where
@@ -50,7 +50,7 @@ module _ (s t : List ℕ) (e : SameAnswers s t) where
         at z true f =
             let l : k < points (opened s .head) = ltb-true k (points (opened s .head)) f in
             walk-steps t a n (e .same-walk a n ∙ z) bt k (omega (arith, m))
-            ∙ ap (λ (p : answers.Point). Point (p .value) (p .time)) (same-answer a n k)
+            ∙ ap (λ (p : answers.Point). Point (p .value) (p .time) (p .mark)) (same-answer a n k)
             ∙ sym (walk-steps s a n z bs k l)
         at z false f =
             let l : points (opened s .head) ≤ k = ltb-false k (points (opened s .head)) f in

@@ -10,7 +10,7 @@ use lib.Dec.{leb}
 use Rattle.rules.specs.Numbers.{Bytes}
 use Rattle.rules.specs.Wave.{Wave, points, decode, encode, framed}
 use Rattle.rules.specs.Rules.{first, stated, payload, frame, sized, inner, rules, refusal, opened}
-use Rattle.rules.specs.Points.{value, time, pointRules, pointRefusal, segmentRules, walkRefusal, fillRefusal}
+use Rattle.rules.specs.Points.{value, mark, time, pointRules, pointRefusal, segmentRules, walkRefusal, fillRefusal}
 use Rattle.rules.specs.Cut.{Setup, cut, cutRules, cutBytes, cutRefusal}
 use Rattle.rules.proofs.Tests.{Each, each-all, first-alike}
 use Rattle.rules.proofs.Facts.{says-sized}
@@ -25,11 +25,12 @@ pub header-kept : (s : List ℕ) → refusal s ≡ 0 → HeaderKept s
 unfolding rules
 header-kept s e = let h = obeys s .0 e in (h .0, h .1 .0)
 
--- t is the same wave as s, and each call answers for it what it answers for s: the number, a point's value and time, and the bytes of a cut
+-- t is the same wave as s, and each call answers for it what it answers for s: the number, a point's value, time and mark, and the bytes of a cut
 pub record SameAnswers (s t : List ℕ) : Type 0 where
   pub same-wave : opened t ≡ opened s
   pub same-number : refusal t ≡ refusal s
-  pub same-point : (a n k : ℕ) → (pointRefusal t a n k ≡ pointRefusal s a n k) × (value (opened t) a n k ≡ value (opened s) a n k) × (time (opened t) n k ≡ time (opened s) n k)
+  pub same-point : (a n k : ℕ)
+      → (pointRefusal t a n k ≡ pointRefusal s a n k) × (value (opened t) a n k ≡ value (opened s) a n k) × (time (opened t) n k ≡ time (opened s) n k) × (mark (opened t) a n k ≡ mark (opened s) a n k)
   pub same-walk : (a n : ℕ) → walkRefusal t a n ≡ walkRefusal s a n
   pub same-fill : (a n room : ℕ) → fillRefusal t a n room ≡ fillRefusal s a n room
   pub same-cut : (o : ℕ) (c : Setup) (room : ℕ) → (cutRefusal o c t room ≡ cutRefusal o c s room) × (cutBytes o c t ≡ cutBytes o c s)
@@ -54,7 +55,7 @@ module _ (s t : List ℕ) (hs : HeaderKept s) (ht : HeaderKept t) (e : payload t
   header-free = record {
     same-wave = wave-same;
     same-number = unfold refusal rules inner in number-same [];
-    same-point = λ a n k. (unfold pointRefusal in number-same-of (λ w. pointRules a n k (w .head)), ap (λ (w : Wave). value w a n k) wave-same, ap (λ (w : Wave). time w n k) wave-same);
+    same-point = λ a n k. (unfold pointRefusal in number-same-of (λ w. pointRules a n k (w .head)), ap (λ (w : Wave). value w a n k) wave-same, ap (λ (w : Wave). time w n k) wave-same, ap (λ (w : Wave). mark w a n k) wave-same);
     same-walk = λ a n. unfold walkRefusal in number-same-of (λ w. segmentRules a n (w .head));
     same-fill = λ a n room. unfold fillRefusal in number-same-of (λ w. segmentRules a n (w .head) ++ ((13, leb (points (w .head)) room ∷ []) ∷ []));
     same-cut = λ o c room. (

@@ -1,0 +1,79 @@
+-- Marks of samples: two signed numbers are the same where their bits are (`bits-equal`), and a count of marks goes on behind what is counted
+-- (`marks-next`, `marks-more`, `marks-one`).
+use mathlib.Core.Path.{_≡_, refl, sym, ap, ap₂, subst, _∙_}
+use mathlib.Core.Bool.{Bool, true, false, _||_, false≢true}
+use mathlib.Core.List.{List, [], _∷_, _++_, map}
+use Prim.Native.Nat.{ℕ, _+_, _≤_, _<_}
+use native.Mathlib.Nat.{add-zero}
+use native.Mathlib.Numerals.{add-one}
+use native.Mathlib.Omega.{arith}
+use lib.Dec.{eqb}
+use lib.IntN.{ℤ, pos, negsuc}
+use lib.ListN.{length, take, getD}
+use lib.Seq.{take-suc}
+use borrow.Author.Tests.{eqb-true, eqb-false, eq-eqb}
+use mir.Syntax.{Width}
+use mir.Val.{SFits, toZ, ofZ}
+use mir.ValLaws.{toZ-ofZ}
+use Rattle.rules.specs.Numbers.{lowest, highest, equal, upFrom}
+use Rattle.rules.specs.Points.{atRail, markNumber, marksIn}
+use Rattle.rules.proofs.Marks.{marks-append, marks-le}
+use Rattle.fills.specs.Fills.{sampleAt, marksFrom}
+use Rattle.fills.proofs.Writes.{map-add, length-map-up}
+
+-- ---- numbers by their bits
+
+equal-refl : (x : ℤ) → equal x x ≡ true
+equal-refl (pos n) = eq-eqb n n refl
+equal-refl (negsuc n) = eq-eqb n n refl
+
+equal-same : (x y : ℤ) → equal x y ≡ true → x ≡ y
+equal-same (pos m) (pos n) e = ap pos (eqb-true m n e)
+equal-same (pos m) (negsuc n) e = absurd (false≢true e)
+equal-same (negsuc m) (pos n) e = absurd (false≢true e)
+equal-same (negsuc m) (negsuc n) e = ap negsuc (eqb-true m n e)
+
+pub bits-equal : (w : Width) (x y : ℤ) → SFits w x → SFits w y → eqb (ofZ w x) (ofZ w y) ≡ equal x y
+bits-equal w x y f g = go (eqb (ofZ w x) (ofZ w y)) refl (equal x y) refl
+  where
+    go : (a : Bool) → eqb (ofZ w x) (ofZ w y) ≡ a → (b : Bool) → equal x y ≡ b → a ≡ b
+    go true p true q = refl
+    go false p false q = refl
+    go true p false q =
+        let e : x ≡ y = sym (toZ-ofZ w x f) ∙ ap (toZ w) (eqb-true (ofZ w x) (ofZ w y) p) ∙ toZ-ofZ w y g in
+        sym (subst (λ (z : ℤ). equal x z ≡ true) e (equal-refl x)) ∙ q
+    go false p true q = absurd (eqb-false (ofZ w x) (ofZ w y) p (ap (ofZ w) (equal-same x y q)))
+
+-- a sample is one of the two numbers of its type, each as the code has it
+pub rail-either : (size : ℕ) (z x low high : ℤ) (r : Bool) → x ≡ z → low ≡ lowest size → high ≡ highest size → r ≡ equal x low || equal x high → r ≡ atRail size z
+unfolding atRail
+rail-either size z x low high r e f g h = h ∙ (λ i. equal (e i) (f i) || equal (e i) (g i))
+
+-- ---- counts
+
+-- of one sample more
+pub marks-next : (size : ℕ) (xs : List ℤ) (k : ℕ) → k < length xs → marksIn size (take k xs) + markNumber (atRail size (getD xs k (pos 0))) ≡ marksIn size (take (k + 1) xs)
+unfolding marksIn
+marks-next size xs k h =
+    ap (λ (n : ℕ). marksIn size (take k xs) + n) (sym (add-zero (markNumber (atRail size (getD xs k (pos 0))))))
+    ∙ sym (marks-append size (take k xs) (getD xs k (pos 0) ∷ []))
+    ∙ ap (marksIn size) (sym (take-suc xs k (pos 0) h) ∙ ap (λ (n : ℕ). take n xs) (sym (add-one k)))
+
+module _ (order size : ℕ) (src : List ℕ) (from : ℕ) where
+  -- no more than there are samples
+  pub marks-few : (a n : ℕ) → marksFrom order size src from a n ≤ n
+  marks-few a n = let f : ℕ → ℤ = sampleAt order size src from in omega (arith, marks-le size (map f (upFrom a n)), length-map-up f a n)
+
+  -- m of i samples, and r of n more, from the one numbered j; and of one more
+  pub marks-more : (a i n j m r : ℕ) (xs : List ℤ) → j ≡ a + i → m ≡ marksFrom order size src from a i → xs ≡ map (sampleAt order size src from) (upFrom j n) → r ≡ marksIn size xs
+      → m + r ≡ marksFrom order size src from a (i + n)
+  marks-more a i n j m r xs e p q h =
+      let f : ℕ → ℤ = sampleAt order size src from in
+      ap₂ {C = ℕ} (λ x y. x + y) p (h ∙ ap (marksIn size) (q ∙ ap (λ (k : ℕ). map f (upFrom k n)) e))
+      ∙ sym (marks-append size (map f (upFrom a i)) (map f (upFrom (a + i) n)))
+      ∙ ap (marksIn size) (sym (map-add f a i n))
+
+  pub marks-one : (a i j m r : ℕ) (z : ℤ) → j ≡ a + i → m ≡ marksFrom order size src from a i → z ≡ sampleAt order size src from j → r ≡ markNumber (atRail size z)
+      → m + r ≡ marksFrom order size src from a (i + 1)
+  unfolding upFrom marksIn
+  marks-one a i j m r z e p q h = marks-more a i 1 j m r (z ∷ []) e p (ap (λ (x : ℤ). x ∷ []) q) (h ∙ sym (add-zero (markNumber (atRail size z))))
