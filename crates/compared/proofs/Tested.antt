@@ -4,13 +4,11 @@ use mathlib.Core.Bool.{Bool, cond}
 use mathlib.Core.List.{List, _++_, map}
 use Prim.Native.Nat.{ℕ, zero, suc, _≤_, _<_}
 use lib.ListN.{length, drop}
-use lib.Ieee.{Float}
 use borrow.Author.Tests.{le-leb, lt-leb}
 use Rattle.rules.specs.Numbers.{upFrom}
 use Rattle.rules.specs.Wave.{points}
 use Rattle.rules.specs.Rules.{opened}
-use Rattle.points.specs.Points.{outBy}
-use Rattle.compared.specs.Tested.{copied, stepsLeft}
+use Rattle.compared.specs.Tested.{copied, leftBy, stepsLeft}
 
 module _ {A : Type 0} (part out : List A) where
   pub copied-fits : length part ≤ length out → part ++ drop (length part) out ≡ copied part out
@@ -19,7 +17,7 @@ module _ {A : Type 0} (part out : List A) where
   pub copied-short : length out < length part → out ≡ copied part out
   copied-short h = ap (λ (t : Bool). cond t (part ++ drop (length part) out) out) (sym (lt-leb (length part) (length out) h))
 
-module _ (s : List ℕ) (number : ℕ) (f : ℕ → Float) (out : List Float) where
+module _ {A : Type 0} (s : List ℕ) (number : ℕ) (f : ℕ → A) (out : List A) where
   pub steps-refused : (number ≡ 0 → ⊥) → out ≡ stepsLeft s number f out
   steps-refused = go number
     where
@@ -29,5 +27,5 @@ module _ (s : List ℕ) (number : ℕ) (f : ℕ → Float) (out : List Float) wh
 
   pub steps-full : (m : ℕ) → number ≡ 0 → m ≡ points (opened s .head) → map f (upFrom 0 m) ++ drop m out ≡ stepsLeft s number f out
   steps-full m z e =
-      let full : List Float = map f (upFrom 0 (points (opened s .head))) ++ drop (points (opened s .head)) out in
-      ap (λ (k : ℕ). map f (upFrom 0 k) ++ drop k out) e ∙ ap (λ (k : ℕ). outBy k full out) (sym z)
+      let full : List A = map f (upFrom 0 (points (opened s .head))) ++ drop (points (opened s .head)) out in
+      ap (λ (k : ℕ). map f (upFrom 0 k) ++ drop k out) e ∙ ap (λ (k : ℕ). leftBy k full out) (sym z)

@@ -18,7 +18,6 @@ use mir.ValLaws.{toZ-ofZ}
 use Rattle.rules.specs.Numbers.{lowest, highest, equal, upFrom}
 use Rattle.rules.specs.Points.{atRail, markNumber, marksIn}
 use Rattle.rules.proofs.Marks.{marks-append, marks-le}
-use Rattle.fills.specs.Fills.{sampleAt, marksFrom}
 use Rattle.fills.proofs.Writes.{map-add, length-map-up}
 
 -- ---- numbers by their bits
@@ -59,21 +58,19 @@ marks-next size xs k h =
     ∙ sym (marks-append size (take k xs) (getD xs k (pos 0) ∷ []))
     ∙ ap (marksIn size) (sym (take-suc xs k (pos 0) h) ∙ ap (λ (n : ℕ). take n xs) (sym (add-one k)))
 
-module _ (order size : ℕ) (src : List ℕ) (from : ℕ) where
+-- of samples f one behind the other
+module _ (size : ℕ) (f : ℕ → ℤ) where
   -- no more than there are samples
-  pub marks-few : (a n : ℕ) → marksFrom order size src from a n ≤ n
-  marks-few a n = let f : ℕ → ℤ = sampleAt order size src from in omega (arith, marks-le size (map f (upFrom a n)), length-map-up f a n)
+  pub marks-few : (a n : ℕ) → marksIn size (map f (upFrom a n)) ≤ n
+  marks-few a n = omega (arith, marks-le size (map f (upFrom a n)), length-map-up f a n)
 
   -- m of i samples, and r of n more, from the one numbered j; and of one more
-  pub marks-more : (a i n j m r : ℕ) (xs : List ℤ) → j ≡ a + i → m ≡ marksFrom order size src from a i → xs ≡ map (sampleAt order size src from) (upFrom j n) → r ≡ marksIn size xs
-      → m + r ≡ marksFrom order size src from a (i + n)
+  pub marks-more : (a i n j m r : ℕ) (xs : List ℤ) → j ≡ a + i → m ≡ marksIn size (map f (upFrom a i)) → xs ≡ map f (upFrom j n) → r ≡ marksIn size xs → m + r ≡ marksIn size (map f (upFrom a (i + n)))
   marks-more a i n j m r xs e p q h =
-      let f : ℕ → ℤ = sampleAt order size src from in
       ap₂ {C = ℕ} (λ x y. x + y) p (h ∙ ap (marksIn size) (q ∙ ap (λ (k : ℕ). map f (upFrom k n)) e))
       ∙ sym (marks-append size (map f (upFrom a i)) (map f (upFrom (a + i) n)))
       ∙ ap (marksIn size) (sym (map-add f a i n))
 
-  pub marks-one : (a i j m r : ℕ) (z : ℤ) → j ≡ a + i → m ≡ marksFrom order size src from a i → z ≡ sampleAt order size src from j → r ≡ markNumber (atRail size z)
-      → m + r ≡ marksFrom order size src from a (i + 1)
+  pub marks-one : (a i j m r : ℕ) (z : ℤ) → j ≡ a + i → m ≡ marksIn size (map f (upFrom a i)) → z ≡ f j → r ≡ markNumber (atRail size z) → m + r ≡ marksIn size (map f (upFrom a (i + 1)))
   unfolding upFrom marksIn
   marks-one a i j m r z e p q h = marks-more a i 1 j m r (z ∷ []) e p (ap (λ (x : ℤ). x ∷ []) q) (h ∙ sym (add-zero (markNumber (atRail size z))))

@@ -46,7 +46,7 @@ pub(crate) fn mark_of(sample: i16, size: usize) -> usize
 }
 
 // 1 for a mark, in 16 bits as the samples are: so a vector instruction adds as many marks as it compares samples.
-fn mark_number(mark: bool) -> u16
+pub fn mark_number(mark: bool) -> u16
     ensures { λ r. ⌜ r ≡ markNumber mark ⌝ }
 {
     if mark { 1 } else { 0 }

@@ -13,7 +13,7 @@ use borrow.Author.Tests.{le-leb, lt-leb}
 use Rattle.rules.specs.Numbers.{Bytes, upFrom}
 use Rattle.rules.specs.Wave.{points}
 use Rattle.rules.specs.Rules.{rules, opened}
-use Rattle.rules.specs.Points.{value, time, segmentRules, walkRefusal, fillRefusal}
+use Rattle.rules.specs.Points.{value, time, mark, segmentRules, walkRefusal, fillRefusal}
 use Rattle.rules.specs.Cut.{orElse}
 use Rattle.rules.proofs.Tests.{first-last}
 use Rattle.rules.proofs.Opened.{rules-numbered}
@@ -23,23 +23,13 @@ use Rattle.points.specs.declared.answers.Point as answers
 use Rattle.points.specs.declared.walk.Place.{Place}
 use Rattle.points.specs.declared.walk.Step.{Step}
 use Rattle.points.specs.declared.walk.Step.the-variants.{Point, Done}
-use Rattle.points.specs.Points.{filledBy, filledAs}
 use Rattle.points.specs.Walks.{placeOf, stepAt, placeAfter}
 use Rattle.points.proofs.Refusals.{walk-points}
 use Rattle.points.proofs.Bounds.{point-answer}
 use Rattle.points.proofs.Walking.{place-number, begins, walk-steps, walk-ends}
 
--- the number in a fill's answer
-pub filled-number : (s : List ℕ) (a n room : ℕ) → filledAs s a n room .refusal ≡ fillRefusal s a n room
-unfolding filledAs
-filled-number s a n room = go (fillRefusal s a n room)
-  where
-    go : (m : ℕ) → filledBy m (points (opened s .head)) .refusal ≡ m
-    go zero = refl
-    go (suc m) = refl
-
 -- where as many are written as there are points, all are
-pub all-written : (f : ℕ → Float) (old out : List Float) (k m : ℕ) → k ≡ m → out ≡ over old 0 (map f (upFrom 0 k)) → out ≡ map f (upFrom 0 m) ++ drop m old
+pub all-written : {A : Type 0} (f : ℕ → A) (old out : List A) (k m : ℕ) → k ≡ m → out ≡ over old 0 (map f (upFrom 0 k)) → out ≡ map f (upFrom 0 m) ++ drop m old
 all-written f old out k m e x = rw e at (x ∙ over-start old (map f (upFrom 0 k)) k (length-map-up f 0 k))
 
 module _ (s : List ℕ) (a n : ℕ) where
@@ -83,30 +73,34 @@ module _ (s : List ℕ) (a n : ℕ) where
   -- ---- a step after the first k
 
   module _ (b : Bytes s) (e : walkRefusal s a n ≡ 0) (k : ℕ) (h : k ≤ M) (p : Place) (ep : p ≡ placeAfter s a n k) (r : Step) (er : r ≡ stepAt s p) where
-    before-end : k < M → r ≡ Point (value (opened s) a n k) (time (opened s) n k)
+    before-end : k < M → r ≡ Point (value (opened s) a n k) (time (opened s) n k) (mark (opened s) a n k)
     before-end l =
         er ∙ ap (stepAt s) ep ∙ walk-steps s a n e b k l
-        ∙ ap (λ (x : answers.Point). Point (x .value) (x .time)) (point-answer s a n k (walk-points s a n e k l))
+        ∙ ap (λ (x : answers.Point). Point (x .value) (x .time) (x .mark)) (point-answer s a n k (walk-points s a n e k l))
 
     at-end : k ≡ M → r ≡ Done
     at-end q = er ∙ ap (stepAt s) ep ∙ walk-ends s a n e k (omega arith) .0
 
-    -- a point is the next, its value is the next value, and its time the next time
-    pub handed : (v t : Float) → r ≡ Point v t → (k < M) × (v ≡ value (opened s) a n k) × (t ≡ time (opened s) n k)
-    handed v t x = ⊎-elim (λ (q : k ≡ M). absurd (differ (at-end q))) (λ (l : k < M). (l, of-value (before-end l), of-time (before-end l))) (eq-or-lt-of-le h)
+    -- a point is the next, its value is the next value, its time the next time, and its mark the next mark
+    pub handed : (v t : Float) (m : Bool) → r ≡ Point v t m → (k < M) × (v ≡ value (opened s) a n k) × (t ≡ time (opened s) n k) × (m ≡ mark (opened s) a n k)
+    handed v t m x =
+        ⊎-elim (λ (q : k ≡ M). absurd (differ (at-end q))) (λ (l : k < M). let y = before-end l in (l, of-value y, of-time y, of-mark y)) (eq-or-lt-of-le h)
       where
         differ : r ≡ Done → ⊥
         differ y = let z : _≡_ {A = ℕ} 0 1 = cc in omega arith
 
-        of-value : r ≡ Point (value (opened s) a n k) (time (opened s) n k) → v ≡ value (opened s) a n k
+        of-value : r ≡ Point (value (opened s) a n k) (time (opened s) n k) (mark (opened s) a n k) → v ≡ value (opened s) a n k
         of-value y = cc
 
-        of-time : r ≡ Point (value (opened s) a n k) (time (opened s) n k) → t ≡ time (opened s) n k
+        of-time : r ≡ Point (value (opened s) a n k) (time (opened s) n k) (mark (opened s) a n k) → t ≡ time (opened s) n k
         of-time y = cc
+
+        of-mark : r ≡ Point (value (opened s) a n k) (time (opened s) n k) (mark (opened s) a n k) → m ≡ mark (opened s) a n k
+        of-mark y = cc
 
     -- and after it is done no value is left
     pub stopped : r ≡ Done → k ≡ M
     stopped x = ⊎-elim (λ (q : k ≡ M). q) (λ (l : k < M). absurd (differ (before-end l))) (eq-or-lt-of-le h)
       where
-        differ : r ≡ Point (value (opened s) a n k) (time (opened s) n k) → ⊥
+        differ : r ≡ Point (value (opened s) a n k) (time (opened s) n k) (mark (opened s) a n k) → ⊥
         differ y = let z : _≡_ {A = ℕ} 0 1 = cc in omega arith

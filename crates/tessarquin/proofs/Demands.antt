@@ -12,13 +12,13 @@ use lib.ListN.{length, take, drop}
 use Rattle.rules.specs.Numbers.{Bytes, number, allBytes, splice}
 use Rattle.rules.specs.Wave.{points}
 use Rattle.rules.specs.Rules.{first, refusal, opened}
-use Rattle.rules.specs.Points.{value, time, pointRefusal}
+use Rattle.rules.specs.Points.{value, time, mark, markNumber, pointRefusal}
 use Rattle.rules.specs.Cut.{Setup, step, orElse, count, cutBytes, cutRules, cutRefusal, combined}
 use Rattle.rules.proofs.Tests.{orElse-none}
 use Rattle.rules.proofs.Demands.{CutTaken, KeptPoint, Small, OneCut, cut-says, room-enough, numbers-fit, cut-bytes, demand-3}
 use Rattle.tessarquin.specs.Calls.{leftBy, pointBytes, pointNumber, pointLeft, cutAnswer, cutNumber, cutLeft, cutAnswerLeft}
 use Rattle.tessarquin.proofs.Writing.{front, pair-read}
-use Rattle.tessarquin.proofs.Slices.{pair-length, number-enough, own-answered}
+use Rattle.tessarquin.proofs.Slices.{three-length, number-enough, own-answered}
 use Rattle.tessarquin.proofs.Cutting.{answer-length}
 use Rattle.tessarquin.proofs.Learnt.{PointCall, CutCall}
 
@@ -74,31 +74,31 @@ done s bytes c q out answer m left second call z =
 
 -- `tessarquin_point` on a kept point, where it returns 0, leaves what it leaves on the first block
 kept-bits : (s t : List ℕ) (c : Setup) (x g k : ℕ) → (pointRefusal t x g k ≡ 0 → KeptPoint s t c x g k) → (a b : List ℕ) (u v : ℕ) (y z : List ℕ)
-    → PointCall t x g k a u y → u ≡ 0 → PointCall s x (orElse (c .sn) g) (c .fp + step c * k) b v z → 16 ≤ length b → (v ≡ 0) × (take 16 z ≡ take 16 y)
+    → PointCall t x g k a u y → u ≡ 0 → PointCall s x (orElse (c .sn) g) (c .fp + step c * k) b v z → 24 ≤ length b → (v ≡ 0) × (take 24 z ≡ take 24 y)
 unfolding pointNumber pointLeft
 kept-bits s t c x g k f a b u v y z p e q h =
     let n : ℕ = orElse (c .sn) g in
     let j : ℕ = c .fp + step c * k in
     let there = own-answered (pointRefusal t x g k) (pointBytes t x g k) a u y (p .3) e in
     let kp : KeptPoint s t c x g k = f (there .0) in
-    let long : length (pointBytes s x n j) ≡ 16 = pair-length (toBits binary64 (value (opened s) x n j)) (toBits binary64 (time (opened s) n j)) in
-    let zero-too : v ≡ 0 = q .3 .0 ∙ number-enough (pointRefusal s x n j) (pointBytes s x n j) (length b) (omega arith) ∙ kp .answered in
+    let long : (u : List ℕ) (g k : ℕ) → length (pointBytes u x g k) ≡ 24 = λ u g k. three-length (toBits binary64 (value (opened u) x g k)) (toBits binary64 (time (opened u) g k)) (markNumber (mark (opened u) x g k)) in
+    let zero-too : v ≡ 0 = q .3 .0 ∙ number-enough (pointRefusal s x n j) (pointBytes s x n j) (length b) (omega (arith, long s n j)) ∙ kp .answered in
     let here = own-answered (pointRefusal s x n j) (pointBytes s x n j) b v z (q .3) zero-too in (
       zero-too,
-      ap (take 16) (here .1) ∙ front (pointBytes s x n j) b 16 long
-          ∙ (λ i. allBytes 0 8 (toBits binary64 (sym (kp .same-value) i) ∷ toBits binary64 (sym (kp .same-time) i) ∷ []))
-          ∙ sym (ap (take 16) (there .1) ∙ front (pointBytes t x g k) a 16 (pair-length (toBits binary64 (value (opened t) x g k)) (toBits binary64 (time (opened t) g k)))),
+      ap (take 24) (here .1) ∙ front (pointBytes s x n j) b 24 (long s n j)
+          ∙ (λ i. allBytes 0 8 (toBits binary64 (sym (kp .same-value) i) ∷ toBits binary64 (sym (kp .same-time) i) ∷ markNumber (sym (kp .same-mark) i) ∷ []))
+          ∙ sym (ap (take 24) (there .1) ∙ front (pointBytes t x g k) a 24 (long t g k)),
     )
 
 -- The one call: it returns 0, leaves the numbers and the block that the second call left, and the same in the whole of the same slices; and where
--- `tessarquin_point` returns 0 on that block, it returns 0 on s too, and leaves the same bits of value and time
+-- `tessarquin_point` returns 0 on that block, it returns 0 on s too, and leaves the same bits of value and time, and the same mark
 pub record OneCall (s : List ℕ) (c : Setup) (out₂ out₃ answer₂ answer₃ : List ℕ) (m₃ : ℕ) (l₂ l₃ r₂ r₃ : List ℕ) : Type 0 where
   pub returns : m₃ ≡ 0
   pub same-numbers : take 16 r₃ ≡ take 16 r₂
   pub same-block : take (lengthIn r₂) l₃ ≡ take (lengthIn r₂) l₂
   pub same-slices : out₃ ≡ out₂ → answer₃ ≡ answer₂ → (l₃ ≡ l₂) × (r₃ ≡ r₂)
   pub same-points : (x g k : ℕ) (a b : List ℕ) (u v : ℕ) (y z : List ℕ) → PointCall (take (lengthIn r₂) l₃) x g k a u y → u ≡ 0
-      → PointCall s x (orElse (c .sn) g) (c .fp + step c * k) b v z → 16 ≤ length b → (v ≡ 0) × (take 16 z ≡ take 16 y)
+      → PointCall s x (orElse (c .sn) g) (c .fp + step c * k) b v z → 24 ≤ length b → (v ≡ 0) × (take 24 z ≡ take 24 y)
 
 module _
     (s : List ℕ) (bytes : Bytes s) (a b : Setup) (p q : ℕ) (out₁ out₂ answer₁ answer₂ : List ℕ) (m₁ m₂ : ℕ) (l₁ l₂ r₁ r₂ : List ℕ)

@@ -1,37 +1,41 @@
--- What a place before a segment's first point says of its samples: they are in the block (`samples-room`), and their bits are the fill's (`bits-are`).
+-- What a place before a segment's first point says of its samples: they are in the block (`samples-room`), their bits are those of the values
+-- (`bits-are`), and their marks are counted (`marks-are`).
 use mathlib.Core.Path.{_≡_, refl, sym, ap, ap₂, _∙_, subst}
-use mathlib.Core.List.{List, _++_, map, flatten, map-map}
+use mathlib.Core.List.{List, [], _∷_, _++_, map, flatten, map-map}
 use Prim.Native.Nat.{ℕ, suc, _+_, _-_, _*_, _≤_, _<_}
 use native.Mathlib.Nat.{suc-mul}
 use native.Mathlib.Omega.{arith}
-use lib.ListN.{length, drop, length-map}
+use lib.ListN.{length, drop, length-map, length-append}
 use lib.Ieee.{Float, binary32, binary64, ofBits, toBits}
-use Rattle.rules.specs.Numbers.{Bytes, bytes, upFrom, splice}
-use Rattle.rules.specs.Wave.{points}
+use Rattle.rules.specs.Numbers.{Bytes, bytes, allBytes, upFrom, splice}
+use Rattle.rules.specs.Wave.{orderOf, sizeOf, points}
 use Rattle.rules.specs.Rules.{refusal, opened}
-use Rattle.rules.specs.Points.{value, walkRefusal}
+use Rattle.rules.specs.Points.{sample, value, marksIn, markCount, walkRefusal}
 use Rattle.rules.proofs.Numbers.{length-allBytes}
 use Rattle.rules.proofs.Thin.{length-upFrom}
 use Rattle.rules.proofs.Opened.{good-opened, shape-opened}
 use Rattle.scale.specs.Scale.{FiniteValue}
-use Rattle.fills.specs.Fills.{valueAt, bitsAt}
+use Rattle.fills.specs.Fills.{sampleAt, valueAt, bitsAt, marksAt}
 use Rattle.block.specs.Opened.{openedAs}
 use Rattle.points.specs.declared.walk.Place.{Place}
 use Rattle.points.specs.Steps.{Lent}
 use Rattle.points.specs.Walks.{acceptedPlace, placeOf}
 use Rattle.points.proofs.Refusals.{walk-points, walk-accepts}
 use Rattle.points.proofs.Stepping.{single-sound}
-use Rattle.points.proofs.Values.{room, value-at}
+use Rattle.points.proofs.Values.{room, sample-is, value-at}
 use Rattle.points.proofs.Fillings.{map-up}
 use Rattle.points.proofs.Walking.{begins}
-use Rattle.tessarquin.specs.Calls.{fillBytes}
+use Rattle.tessarquin.specs.Calls.{valueBits, fillBytes}
 
--- the bytes of a fill are eight for each point
-pub length-fill : (s : List ℕ) (a n : ℕ) → length (fillBytes s a n) ≡ points (opened s .head) * 8
+-- a value for each point, and the bytes of a fill: eight for each, and eight for the number of marks
+pub length-values : (s : List ℕ) (a n : ℕ) → length (valueBits s a n) ≡ points (opened s .head)
+length-values s a n =
+    let m : ℕ = points (opened s .head) in length-map (upFrom 0 m) (λ k. toBits binary64 (value (opened s) a n k)) ∙ length-upFrom 0 m
+
+pub length-fill : (s : List ℕ) (a n : ℕ) → length (fillBytes s a n) ≡ points (opened s .head) * 8 + 8
 length-fill s a n =
-    let m : ℕ = points (opened s .head) in
-    let f : ℕ → ℕ = λ k. toBits binary64 (value (opened s) a n k) in
-    length-allBytes 0 8 (map f (upFrom 0 m)) ∙ ap (λ (x : ℕ). x * 8) (length-map (upFrom 0 m) f ∙ length-upFrom 0 m)
+    let ns : List ℕ = valueBits s a n ++ (markCount (opened s) a n ∷ []) in
+    omega (arith, length-allBytes 0 8 ns, length-append (valueBits s a n) (markCount (opened s) a n ∷ []), length-values s a n)
 
 module _ (s : List ℕ) (b : Bytes s) (a n : ℕ) (p : Place) (e : p ≡ placeOf s a n) (z : walkRefusal s a n ≡ 0) where
   is : p ≡ acceptedPlace s a n 0
@@ -69,7 +73,7 @@ module _ (s : List ℕ) (b : Bytes s) (a n : ℕ) (p : Place) (e : p ≡ placeOf
       (subst (λ (x : Place). x .samples + x .points * (x .kind + 1) ≤ length s) (sym is)
       (omega (arith, v, suc-mul m (q .kind + 1), room s b (openedAs s) a n m (each m (omega (arith, some))))))
 
-  bits : bitsAt (p .calibration .gain) (p .calibration .offset) (p .order) (p .kind + 1) s (p .samples) (p .points) ≡ fillBytes s a n
+  bits : bitsAt (p .calibration .gain) (p .calibration .offset) (p .order) (p .kind + 1) s (p .samples) (p .points) ≡ allBytes 0 8 (valueBits s a n)
   unfolding bitsAt
   bits =
       let q : Place = acceptedPlace s a n 0 in
@@ -81,7 +85,17 @@ module _ (s : List ℕ) (b : Bytes s) (a n : ℕ) (p : Place) (e : p ≡ placeOf
 
   -- as the code has them: written over the start of a slice
   pub bits-are : (size : ℕ) → p .kind + 1 ≡ size → (out : List ℕ)
-      → bitsAt (p .calibration .gain) (p .calibration .offset) (p .order) size s (p .samples) (p .points) ++ drop (p .points * 8) out ≡ splice out 0 (fillBytes s a n)
+      → bitsAt (p .calibration .gain) (p .calibration .offset) (p .order) size s (p .samples) (p .points) ++ drop (p .points * 8) out ≡ splice out 0 (allBytes 0 8 (valueBits s a n))
   bits-are size es out =
-      let l : p .points * 8 ≡ 0 + length (fillBytes s a n) = omega (arith, length-fill s a n, ap (λ (x : ℕ). x * 8) points-are) in
+      let l : p .points * 8 ≡ 0 + length (allBytes 0 8 (valueBits s a n)) = omega (arith, length-allBytes 0 8 (valueBits s a n), length-values s a n, points-are) in
       ap₂ {C = List ℕ} (λ x y. x ++ drop y out) (ap (λ (x : ℕ). bitsAt (p .calibration .gain) (p .calibration .offset) (p .order) x s (p .samples) (p .points)) (sym es) ∙ bits) l
+
+  -- the number of the marks
+  pub marks-are : (size : ℕ) → p .kind + 1 ≡ size → marksAt (p .order) size s (p .samples) (p .points) ≡ markCount (opened s) a n
+  unfolding marksAt markCount
+  marks-are size es =
+      let q : Place = acceptedPlace s a n 0 in
+      ap (λ (x : ℕ). marksAt (p .order) x s (p .samples) (p .points)) (sym es)
+      ∙ ap (λ (x : Place). marksAt (x .order) (x .kind + 1) s (x .samples) (x .points)) is
+      ∙ ap (marksIn (q .kind + 1)) (map-up (sampleAt (q .order) (q .kind + 1) s (q .samples)) (sample (opened s) a n) 0 (q .points)
+      (λ k g h. sample-is s b (openedAs s) a n k (each k (omega arith))))

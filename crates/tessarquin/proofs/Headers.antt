@@ -12,7 +12,7 @@ use lib.Ieee.{binary64, toBits}
 use Rattle.rules.specs.Numbers.{Bytes, allBytes, upFrom, splice}
 use Rattle.rules.specs.Wave.{Wave, orderOf, segments, points, firstPoint, sparsing, segmentIndex, subarrayCount, lengthsOf, startsOf}
 use Rattle.rules.specs.Rules.{payloadStart, refusal, opened}
-use Rattle.rules.specs.Points.{value}
+use Rattle.rules.specs.Points.{value, markNumber, markCount}
 use Rattle.rules.specs.Cut.{Setup, orElse, count}
 use Rattle.rules.proofs.Headers.{SameAnswers}
 use Rattle.block.specs.Opened.{arraysOf}
@@ -40,7 +40,7 @@ module _ (s t : List ℕ) (e : SameAnswers s t) where
       let k = same-number (length answer) (e .same-number) open-bytes in (q .3 .0 ∙ k ∙ sym (p .3 .0), q .3 .1 ∙ same-left answer k open-bytes ∙ sym (p .3 .1))
 
   point-bytes : (a n k : ℕ) → pointBytes t a n k ≡ pointBytes s a n k
-  point-bytes a n k = let p = e .same-point a n k in λ i. allBytes 0 8 (toBits binary64 (p .1 i) ∷ toBits binary64 (p .2 i) ∷ [])
+  point-bytes a n k = let p = e .same-point a n k in λ i. allBytes 0 8 (toBits binary64 (p .1 i) ∷ toBits binary64 (p .2 i) ∷ markNumber (p .3 i) ∷ [])
 
   pub point-same : (array segment k : ℕ) (answer : List ℕ) (m n : ℕ) (x y : List ℕ) → PointCall s array segment k answer m x → PointCall t array segment k answer n y → (n ≡ m) × (y ≡ x)
   unfolding pointNumber pointLeft
@@ -50,7 +50,7 @@ module _ (s t : List ℕ) (e : SameAnswers s t) where
       (q .3 .0 ∙ r ∙ sym (p .3 .0), q .3 .1 ∙ same-left answer r b ∙ sym (p .3 .1))
 
   fill-bytes : (a n : ℕ) → fillBytes t a n ≡ fillBytes s a n
-  fill-bytes a n = let w = e .same-wave in λ i. allBytes 0 8 (map (λ k. toBits binary64 (value (w i) a n k)) (upFrom 0 (points (w i .head))))
+  fill-bytes a n = let w = e .same-wave in λ i. allBytes 0 8 (map (λ k. toBits binary64 (value (w i) a n k)) (upFrom 0 (points (w i .head))) ++ (markCount (w i) a n ∷ []))
 
   pub fill-same : (array segment : ℕ) (answer : List ℕ) (m n : ℕ) (x y : List ℕ) → FillCall s array segment answer m x → FillCall t array segment answer n y → (n ≡ m) × (y ≡ x)
   unfolding fillNumber fillLeft

@@ -7,3 +7,4 @@ pub mod Determined
 pub mod Headers
 pub mod Demands
 pub mod Places
+pub mod Marks

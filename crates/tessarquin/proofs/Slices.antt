@@ -28,6 +28,9 @@ open-length s = let h : ℕ → ℕ = opened s .head in length-allBytes 0 8 (seg
 pub pair-length : (x y : ℕ) → length (allBytes 0 8 (x ∷ y ∷ [])) ≡ 16
 pair-length x y = length-allBytes 0 8 (x ∷ y ∷ [])
 
+pub three-length : (x y z : ℕ) → length (allBytes 0 8 (x ∷ y ∷ z ∷ [])) ≡ 24
+three-length x y z = length-allBytes 0 8 (x ∷ y ∷ z ∷ [])
+
 pub layout-length : (s : List ℕ) → length (layoutBytes s) ≡ 200
 unfolding startsOf startsFrom
 layout-length s =

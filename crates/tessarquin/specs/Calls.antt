@@ -8,7 +8,7 @@ use lib.Ieee.{binary64, toBits}
 use Rattle.rules.specs.Numbers.{allBytes, upFrom, splice}
 use Rattle.rules.specs.Wave.{orderOf, segments, points, firstPoint, sparsing, segmentIndex, subarrayCount, lengthsOf, startsOf}
 use Rattle.rules.specs.Rules.{payloadStart, refusal, opened}
-use Rattle.rules.specs.Points.{value, time, pointRefusal, walkRefusal}
+use Rattle.rules.specs.Points.{value, time, mark, markNumber, markCount, pointRefusal, walkRefusal}
 use Rattle.rules.specs.Cut.{Setup, orElse, count, cutBytes, cutRefusal}
 use Rattle.block.specs.Opened.{arraysOf}
 use Rattle.block.specs.Texts.{textOf, textStart, traceLabel, upToZero, orOther}
@@ -33,10 +33,10 @@ openNumber s room = orRoom (refusal s) (openBytes s) room
 unfoldable pub openLeft : List ℕ → List ℕ → List ℕ
 openLeft s answer = leftBy (openNumber s (length answer)) (openBytes s) answer
 
--- ---- point k of segment n of array a: the value's bits and the time's
+-- ---- point k of segment n of array a: the value's bits, the time's, and the mark
 
 abbrev pub pointBytes : List ℕ → ℕ → ℕ → ℕ → List ℕ
-pointBytes s a n k = allBytes 0 8 (toBits binary64 (value (opened s) a n k) ∷ toBits binary64 (time (opened s) n k) ∷ [])
+pointBytes s a n k = allBytes 0 8 (toBits binary64 (value (opened s) a n k) ∷ toBits binary64 (time (opened s) n k) ∷ markNumber (mark (opened s) a n k) ∷ [])
 
 unfoldable pub pointNumber : List ℕ → ℕ → ℕ → ℕ → ℕ → ℕ
 pointNumber s a n k room = orRoom (pointRefusal s a n k) (pointBytes s a n k) room
@@ -44,10 +44,13 @@ pointNumber s a n k room = orRoom (pointRefusal s a n k) (pointBytes s a n k) ro
 unfoldable pub pointLeft : List ℕ → ℕ → ℕ → ℕ → List ℕ → List ℕ
 pointLeft s a n k answer = leftBy (pointNumber s a n k (length answer)) (pointBytes s a n k) answer
 
--- ---- a fill of segment n of array a: the M values' bits; refused before 13 as a walk over the segment is
+-- ---- a fill of segment n of array a: the M values' bits, and how many of the M samples have the mark; refused before 13 as a walk over the segment is
+
+abbrev pub valueBits : List ℕ → ℕ → ℕ → List ℕ
+valueBits s a n = map (λ k. toBits binary64 (value (opened s) a n k)) (upFrom 0 (points (opened s .head)))
 
 abbrev pub fillBytes : List ℕ → ℕ → ℕ → List ℕ
-fillBytes s a n = allBytes 0 8 (map (λ k. toBits binary64 (value (opened s) a n k)) (upFrom 0 (points (opened s .head))))
+fillBytes s a n = allBytes 0 8 (valueBits s a n ++ (markCount (opened s) a n ∷ []))
 
 unfoldable pub fillNumber : List ℕ → ℕ → ℕ → ℕ → ℕ
 fillNumber s a n room = orRoom (walkRefusal s a n) (fillBytes s a n) room

@@ -10,11 +10,12 @@ ghost use mathlib.Core.List.{[], _∷_};
 ghost use Prim.Native.Nat.{_+_, _*_, _≤_};
 ghost use lib.ListN.{length};
 ghost use Rattle.rules.specs.Numbers.{allBytes, splice};
-ghost use Rattle.rules.specs.Points.{walkRefusal};
+ghost use Rattle.rules.specs.Rules.{opened};
+ghost use Rattle.rules.specs.Points.{markCount, walkRefusal};
 ghost use Rattle.rules.specs.Cut.{cutRefusal};
 ghost use Rattle.points.specs.Walks.{placeOf};
 ghost use Rattle.cuts.specs.Cuts.{setupAs};
-ghost use Rattle.tessarquin.specs.Calls.{setup, openNumber, openLeft, pointNumber, pointLeft, fillBytes, fillNumber, fillLeft, cutNumber, cutLeft, cutAnswerLeft};
+ghost use Rattle.tessarquin.specs.Calls.{setup, openNumber, openLeft, pointNumber, pointLeft, valueBits, fillBytes, fillNumber, fillLeft, cutNumber, cutLeft, cutAnswerLeft};
 
 // Opens a block: g, M, arrays, COMM_ORDER and COMM_TYPE.
 #[no_mangle]
@@ -33,7 +34,7 @@ pub extern "C" fn tessarquin_open(block: &[u8], answer: &mut [u8]) -> u32
     0
 }
 
-// A point of a segment of an array: the bits of its value and of its time.
+// A point of a segment of an array: the bits of its value and of its time, and its mark.
 #[no_mangle]
 pub extern "C" fn tessarquin_point(
     block: &[u8],
@@ -49,14 +50,15 @@ pub extern "C" fn tessarquin_point(
     if p.refusal != 0 {
         return p.refusal;
     }
-    if answer.len() < 16 {
+    if answer.len() < 24 {
         return 13;
     }
-    put_pair(scale::bits(p.value), scale::bits(p.time), answer, 0);
+    let mark = fills::mark_number(p.mark) as u64;
+    put_three(scale::bits(p.value), scale::bits(p.time), mark, answer);
     0
 }
 
-// All M points of a segment of an array: the bits of their values.
+// All M points of a segment of an array: the bits of their values, and how many of their samples stand at the rail.
 #[no_mangle]
 pub extern "C" fn tessarquin_fill(block: &[u8], array: u32, segment: u32, answer: &mut [u8]) -> u32
     ensures { λ r. ⌜ r ≡ fillNumber (now (block .entry)) array segment (length (now (answer .entry))) ⌝ }
@@ -66,10 +68,10 @@ pub extern "C" fn tessarquin_fill(block: &[u8], array: u32, segment: u32, answer
     if place.refusal != 0 {
         return place.refusal;
     }
-    if answer.len() < place.points as usize * 8 {
+    if answer.len() < place.points as usize * 8 + 8 {
         return 13;
     }
-    put_values(block, array, segment, place, answer);
+    put_filled(block, array, segment, place, answer);
     0
 }
 
@@ -125,21 +127,33 @@ fn without_room(block: &[u8], setup: Setup, order: u32) -> u32
     w.refusal
 }
 
-// The bits of the values of a walk's segment, at the start of out.
-fn put_values(block: &[u8], array: u32, segment: u32, place: Place, out: &mut [u8])
+// The bits of the values of a walk's segment and the number of its marks, at the start of out.
+fn put_filled(block: &[u8], array: u32, segment: u32, place: Place, out: &mut [u8])
+    requires { ⌜ place ≡ placeOf (now block) array segment ⌝ }
+    requires { ⌜ walkRefusal (now block) array segment ≡ 0 ⌝ }
+    requires { ⌜ place .points * 8 + 8 ≤ length (now out) ⌝ }
+    ensures { λ _. ⌜ now (out .exit) ≡ splice (now (out .entry)) 0 (fillBytes (now (block .entry)) array segment) ⌝ }
+{
+    let behind = place.points as usize * 8;
+    let marks = put_values(block, array, segment, place, out);
+    numbers::put_u64(marks, 0, out, behind);
+}
+
+// The bits of the values of a walk's segment, at the start of out; the answer is how many of its samples stand at the rail.
+fn put_values(block: &[u8], array: u32, segment: u32, place: Place, out: &mut [u8]) -> u64
     requires { ⌜ place ≡ placeOf (now block) array segment ⌝ }
     requires { ⌜ walkRefusal (now block) array segment ≡ 0 ⌝ }
     requires { ⌜ place .points * 8 ≤ length (now out) ⌝ }
-    ensures { λ _. ⌜ now (out .exit) ≡ splice (now (out .entry)) 0 (fillBytes (now (block .entry)) array segment) ⌝ }
+    ensures { λ _. ⌜ now (out .exit) ≡ splice (now (out .entry)) 0 (allBytes 0 8 (valueBits (now (block .entry)) array segment)) ⌝ }
+    ensures { λ r. ⌜ r ≡ markCount (opened (now (block .entry))) array segment ⌝ }
 {
     let from = place.samples;
     let count = place.points as usize;
     let c = place.calibration;
     if place.kind == 0 {
-        fills::put_bytes(block, from, count, c, out);
-        return;
+        return fills::put_bytes(block, from, count, c, out) as u64;
     }
-    fills::put_words(block, from, count, place.order, c, out);
+    fills::put_words(block, from, count, place.order, c, out) as u64
 }
 
 // Five numbers of eight bytes at the start of out, the high byte first.

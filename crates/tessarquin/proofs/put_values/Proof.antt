@@ -1,4 +1,4 @@
--- The samples are in the block, and their bits are those of the segment's values.
+-- The samples are in the block, their bits are those of the segment's values, and their marks are the segment's.
 use mathlib.Core.Path.{_≡_, _∙_}
 use Prim.Native.Nat.{_+_}
 use native.Mathlib.Omega.{arith}
@@ -32,8 +32,11 @@ returns c =
     let k = c .before .before .before .before .before .before .before .before .before in
     let x = k .before in
     let a = x .args in
-    c .before .before .put-bytes .ensures (a .place .order)
-    ∙ filling.bits-are (a .block .now) (bytes k) (a .array) (a .segment) (a .place) (x .pre .0) (x .pre .1 .0) 1 (omega (arith, c .before .before .before .before .if1 .taken)) (a .out .now)
+    let r = c .before .before .put-bytes .ensures in
+    let size : a .place .kind + 1 ≡ 1 = omega (arith, c .before .before .before .before .if1 .taken) in (
+      r .0 (a .place .order) ∙ filling.bits-are (a .block .now) (bytes k) (a .array) (a .segment) (a .place) (x .pre .0) (x .pre .1 .0) 1 size (a .out .now),
+      r .1 (a .place .order) ∙ filling.marks-are (a .block .now) (bytes k) (a .array) (a .segment) (a .place) (x .pre .0) (x .pre .1 .0) 1 size,
+    )
 
 put-words-requires : tie.Need-put-words-requires
 put-words-requires c κs =
@@ -52,7 +55,10 @@ returns-2 c =
     let x = k .before in
     let a = x .args in
     let size : a .place .kind + 1 ≡ 2 = omega (arith, c .before .before .before .before .if1 .left, filling.kind-small (a .block .now) (bytes k) (a .array) (a .segment) (a .place) (x .pre .0) (x .pre .1 .0)) in
-    c .before .before .put-words .ensures ∙ filling.bits-are (a .block .now) (bytes k) (a .array) (a .segment) (a .place) (x .pre .0) (x .pre .1 .0) 2 size (a .out .now)
+    let r = c .before .before .put-words .ensures in (
+      r .0 ∙ filling.bits-are (a .block .now) (bytes k) (a .array) (a .segment) (a .place) (x .pre .0) (x .pre .1 .0) 2 size (a .out .now),
+      r .1 ∙ filling.marks-are (a .block .now) (bytes k) (a .array) (a .segment) (a .place) (x .pre .0) (x .pre .1 .0) 2 size,
+    )
 
 pub put-values-spec : {M : Type 1} → statement M
 put-values-spec =

@@ -1,28 +1,24 @@
--- Refused as the point is, without room, or answered by its value's bits and its time's.
-use mathlib.Core.Path.{_≡_, sym, ap, ap₂, _∙_, subst}
+-- Refused as the point is, without room, or answered by its value's bits, its time's and its mark.
+use mathlib.Core.Path.{_≡_, sym, ap, _∙_, subst}
 use mathlib.Core.Bool.{not}
 use mathlib.Core.List.{List, [], _∷_}
 use Prim.Native.Nat.{ℕ}
 use native.Mathlib.Omega.{arith}
 use lib.Dec.{T}
+use lib.ListN.{length}
 use lib.Ieee.{binary64, isNan, toBits}
 use Rattle.rules.specs.Numbers.{Bytes, allBytes, splice}
 use Rattle.rules.specs.Rules.{opened}
-use Rattle.rules.specs.Points.{value, time, pointRefusal}
+use Rattle.rules.specs.Points.{value, time, mark, markNumber, pointRefusal}
 use Rattle.rules.proofs.Numbers.{below-index}
 use Rattle.scale.proofs.Finite.{near-no-nan}
 use Rattle.points.specs.declared.answers.Point.{Point}
 use Rattle.points.proofs.Bounds.{point-number, point-answer, answer-near}
 use Rattle.tessarquin.specs.Calls.{pointBytes, pointNumber, pointLeft}
-use Rattle.tessarquin.proofs.Slices.{pair-length, own-refused, own-short, own-left}
+use Rattle.tessarquin.proofs.Slices.{three-length, own-refused, own-short, own-left}
 use borrow.Author.Needs.{needs}
 use Rattle.tessarquin.proofs.tessarquin_point.Statement.{statement}
 use Rattle.tessarquin.proofs.tessarquin_point.Tie as tie
-use Rattle.tessarquin.proofs.tessarquin_point.Reads as reads
-use Rattle.tessarquin.proofs.tessarquin_point.Lts as lts
-use Rattle.points.proofs.point.Reads as point-reads
-use Rattle.scale.proofs.bits.Reads as bits-reads
-use Rattle.tessarquin.proofs.put_pair.Reads as put-pair-reads
 
 -- every element of a slice is a byte
 bytes : (c : tie.After-shared-slice-known) → Bytes (c .before .args .block .now)
@@ -39,6 +35,10 @@ clean c =
     let q = answer-near (a .block .now) (a .array) (a .segment) (a .point) (bytes (c .before .before .before .before)) (sym (ap (λ (x : Point). x .refusal) e) ∙ c .if1 .left) in
     subst (λ (x : Point). T (not (isNan (x .value))) × T (not (isNan (x .time)))) (sym e) (near-no-nan (q .0), near-no-nan (q .1))
 
+-- its answer has three numbers
+long : (s : List ℕ) (a n k : ℕ) → length (pointBytes s a n k) ≡ 24
+long s a n k = three-length (toBits binary64 (value (opened s) a n k)) (toBits binary64 (time (opened s) n k)) (markNumber (mark (opened s) a n k))
+
 point-requires : tie.Need-point-requires
 point-requires c κs = search needs
 
@@ -52,16 +52,22 @@ returns-2 : tie.Need-returns-2
 unfolding pointNumber pointLeft
 returns-2 c =
     let a = c .before .before .before .before .before .before .args in
-    own-short (pointRefusal (a .block .now) (a .array) (a .segment) (a .point)) (pointBytes (a .block .now) (a .array) (a .segment) (a .point)) (a .answer .now) (sym (number (c .before .before .before)) ∙ c .before .if1 .left) (omega (arith, c .if2 .taken, pair-length (toBits binary64 (value (opened (a .block .now)) (a .array) (a .segment) (a .point))) (toBits binary64 (time (opened (a .block .now)) (a .segment) (a .point)))))
+    own-short (pointRefusal (a .block .now) (a .array) (a .segment) (a .point)) (pointBytes (a .block .now) (a .array) (a .segment) (a .point)) (a .answer .now) (sym (number (c .before .before .before)) ∙ c .before .if1 .left) (omega (arith, c .if2 .taken, long (a .block .now) (a .array) (a .segment) (a .point)))
+
+mark-number-requires : tie.Need-mark-number-requires
+mark-number-requires c κs = search needs
+
+cast-mark : tie.Need-cast-mark
+cast-mark c = search needs
 
 bits-requires : tie.Need-bits-requires
-bits-requires c κs = search (needs, clean (c .before) .0, clean (c .before) .1)
+bits-requires c κs = search (needs, clean (c .before .before) .0)
 
 bits-requires-2 : tie.Need-bits-requires-2
-bits-requires-2 c κs = search (needs, clean (c .before .before) .0, clean (c .before .before) .1)
+bits-requires-2 c κs = search (needs, clean (c .before .before .before) .1)
 
-put-pair-requires : tie.Need-put-pair-requires
-put-pair-requires c κs = search needs
+put-three-requires : tie.Need-put-three-requires
+put-three-requires c κs = search needs
 
 same-length : tie.Need-same-length
 same-length c = search needs
@@ -69,15 +75,18 @@ same-length c = search needs
 returns-3 : tie.Need-returns-3
 unfolding pointNumber pointLeft
 returns-3 c =
-    let a = c .before .before .before .before .before .before .before .before .before .before .before .before .args in
-    let p = c .before .before .before .before .before .before .before .before .before .point in
-    let z : pointRefusal (a .block .now) (a .array) (a .segment) (a .point) ≡ 0 = sym (number (c .before .before .before .before .before .before .before .before .before)) ∙ c .before .before .before .before .before .before .before .if1 .left in
-    let r = own-left (pointRefusal (a .block .now) (a .array) (a .segment) (a .point)) (pointBytes (a .block .now) (a .array) (a .segment) (a .point)) (a .answer .now) z (omega (arith, c .before .before .before .before .before .before .if2 .left, pair-length (toBits binary64 (value (opened (a .block .now)) (a .array) (a .segment) (a .point))) (toBits binary64 (time (opened (a .block .now)) (a .segment) (a .point))))) in
-    let e = p .ensures ∙ point-answer (a .block .now) (a .array) (a .segment) (a .point) z in (
+    let a = c .before .before .before .before .before .before .before .before .before .before .before .before .before .args in
+    let p = c .before .before .before .before .before .before .before .before .before .before .point in
+    let z : pointRefusal (a .block .now) (a .array) (a .segment) (a .point) ≡ 0 = sym (number (c .before .before .before .before .before .before .before .before .before .before)) ∙ c .before .before .before .before .before .before .before .before .if1 .left in
+    let r = own-left (pointRefusal (a .block .now) (a .array) (a .segment) (a .point)) (pointBytes (a .block .now) (a .array) (a .segment) (a .point)) (a .answer .now) z (omega (arith, c .before .before .before .before .before .before .before .if2 .left, long (a .block .now) (a .array) (a .segment) (a .point))) in
+    let e = p .ensures ∙ point-answer (a .block .now) (a .array) (a .segment) (a .point) z in
+    let value = c .before .before .before .before .before .bits .ensures in
+    let time = c .before .before .before .before .bits2 .ensures in
+    let mark = c .before .before .before .before .before .before .mark-number .ensures in (
       r .0,
-      c .before .before .put-pair .ensures
-          ∙ ap₂ {C = List ℕ} (λ x y. splice (a .answer .now) 0 (allBytes 0 8 (x ∷ y ∷ []))) (c .before .before .before .before .before .bits .ensures) (c .before .before .before .before .bits2 .ensures)
-          ∙ ap {B = List ℕ} (λ (x : Point). splice (a .answer .now) 0 (allBytes 0 8 (toBits binary64 (x .value) ∷ toBits binary64 (x .time) ∷ []))) e
+      c .before .before .put-three .ensures
+          ∙ (λ i. splice (a .answer .now) 0 (allBytes 0 8 (value i ∷ time i ∷ mark i ∷ [])))
+          ∙ ap {B = List ℕ} (λ (x : Point). splice (a .answer .now) 0 (allBytes 0 8 (toBits binary64 (x .value) ∷ toBits binary64 (x .time) ∷ markNumber (x .mark) ∷ []))) e
           ∙ r .1,
     )
 
@@ -88,8 +97,10 @@ tessarquin-point-spec =
     point-requires
     returns
     returns-2
+    mark-number-requires
+    cast-mark
     bits-requires
     bits-requires-2
-    put-pair-requires
+    put-three-requires
     same-length
     returns-3)
