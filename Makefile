@@ -71,9 +71,9 @@ checked: WRAPPED := open write fsync close rename renameat2 tessarquin_point tes
 checked: need-tests host target/host/made target/host/sample target/host/table target/host/fields
 	@awk '/^```c$$/ { on = 1; next } /^```$$/ { on = 0 } on' README.md >target/host/first.c
 	@$(CC) $(CFLAGS) target/host/first.c $(ARCHIVE) -o target/host/first
-	@$(CXX) -std=c++17 -Wall -Wextra -Werror -Iinclude -fsyntax-only -x c++ target/host/first.c
-	@sed -n '/^ \*     uint8_t layout/,/^ \*     }/s/^ \*     //p' include/tessarquin.h >target/host/printed.h
-	@$(CC) $(CFLAGS) -Itarget/host host/tests/unit.c $(ARCHIVE) -o target/host/unit
+	@sed -n '/^ \*     uint8_t /,/^ \*     }/s/^ \*     //p' include/tessarquin.h >target/host/printed.h
+	@$(CC) $(CFLAGS) -Itarget/host host/tests/printed.c $(ARCHIVE) -o target/host/printed
+	@$(CXX) -std=c++17 -Wall -Wextra -Werror -Iinclude -Itarget/host -fsyntax-only -x c++ target/host/first.c host/tests/printed.c
 	@$(CC) $(CFLAGS) host/tests/calls.c $(ARCHIVE) -o target/host/calls
 	@$(RUN) target/host/calls
 	@$(RUN) target/host/fields

@@ -54,9 +54,11 @@ static uint32_t text_found(void) { return tessarquin_user_text(block, length, an
 static uint32_t label_found(void) { return tessarquin_label(block, length, (const uint8_t *)"C1", 2, answer, sizeof answer); }
 static uint32_t one_point(void) { return tessarquin_point(block, length, 1, 1, (uint32_t)(points - 1), answer, sizeof answer); }
 static uint32_t last_segment(void) { return tessarquin_point(block, length, 1, (uint32_t)points, 0, answer, sizeof answer); }
-static uint32_t filled(void) { return tessarquin_fill(block, length, 1, 1, out, 8 * points); }
-static uint32_t filled_floats(void) { return measured_fill(block, length, 1, 1, values, points); }
-static uint32_t walked_floats(void) { return measured_walk(block, length, 1, 1, values, points); }
+static uint32_t filled(void) { return tessarquin_fill(block, length, 1, 1, out, TESSARQUIN_FILL_BYTES(points)); }
+
+/* Those that are measured answer a refusal's number above the number of samples at the rail. */
+static uint32_t filled_floats(void) { return (uint32_t)(measured_fill(block, length, 1, 1, values, points) >> 32); }
+static uint32_t walked_floats(void) { return (uint32_t)(measured_walk(block, length, 1, 1, values, points) >> 32); }
 
 static uint32_t cut_by(uint32_t sp, uint32_t to)
 {

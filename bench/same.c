@@ -24,40 +24,70 @@ static void put_double(uint8_t *at, double x)
     memcpy(at, &bits, sizeof bits);
 }
 
-void same_fill_bytes(const uint8_t *restrict samples, size_t n, float gain, float offset, uint8_t *restrict out)
+uint32_t same_fill_bytes(const uint8_t *restrict samples, size_t n, float gain, float offset, uint8_t *restrict out)
 {
-    for (size_t k = 0; k < n; k++)
-        put_double(out + 8 * k, (double)gain * (int8_t)samples[k] - (double)offset);
+    uint32_t marks = 0;
+    for (size_t k = 0; k < n; k++) {
+        int8_t z = (int8_t)samples[k];
+        marks += (z == INT8_MIN) | (z == INT8_MAX);
+        put_double(out + 8 * k, (double)gain * z - (double)offset);
+    }
+    return marks;
 }
 
-void same_fill_words_low(const uint8_t *restrict samples, size_t n, float gain, float offset, uint8_t *restrict out)
+uint32_t same_fill_words_low(const uint8_t *restrict samples, size_t n, float gain, float offset, uint8_t *restrict out)
 {
-    for (size_t k = 0; k < n; k++)
-        put_double(out + 8 * k, (double)gain * (int16_t)word(samples + 2 * k) - (double)offset);
+    uint32_t marks = 0;
+    for (size_t k = 0; k < n; k++) {
+        int16_t z = (int16_t)word(samples + 2 * k);
+        marks += (z == INT16_MIN) | (z == INT16_MAX);
+        put_double(out + 8 * k, (double)gain * z - (double)offset);
+    }
+    return marks;
 }
 
-void same_fill_words_high(const uint8_t *restrict samples, size_t n, float gain, float offset, uint8_t *restrict out)
+uint32_t same_fill_words_high(const uint8_t *restrict samples, size_t n, float gain, float offset, uint8_t *restrict out)
 {
-    for (size_t k = 0; k < n; k++)
-        put_double(out + 8 * k, (double)gain * (int16_t)__builtin_bswap16(word(samples + 2 * k)) - (double)offset);
+    uint32_t marks = 0;
+    for (size_t k = 0; k < n; k++) {
+        int16_t z = (int16_t)__builtin_bswap16(word(samples + 2 * k));
+        marks += (z == INT16_MIN) | (z == INT16_MAX);
+        put_double(out + 8 * k, (double)gain * z - (double)offset);
+    }
+    return marks;
 }
 
-void same_values_bytes(const uint8_t *restrict samples, size_t n, float gain, float offset, double *restrict out)
+uint32_t same_values_bytes(const uint8_t *restrict samples, size_t n, float gain, float offset, double *restrict out)
 {
-    for (size_t k = 0; k < n; k++)
-        out[k] = (double)gain * (int8_t)samples[k] - (double)offset;
+    uint32_t marks = 0;
+    for (size_t k = 0; k < n; k++) {
+        int8_t z = (int8_t)samples[k];
+        marks += (z == INT8_MIN) | (z == INT8_MAX);
+        out[k] = (double)gain * z - (double)offset;
+    }
+    return marks;
 }
 
-void same_values_words_low(const uint8_t *restrict samples, size_t n, float gain, float offset, double *restrict out)
+uint32_t same_values_words_low(const uint8_t *restrict samples, size_t n, float gain, float offset, double *restrict out)
 {
-    for (size_t k = 0; k < n; k++)
-        out[k] = (double)gain * (int16_t)word(samples + 2 * k) - (double)offset;
+    uint32_t marks = 0;
+    for (size_t k = 0; k < n; k++) {
+        int16_t z = (int16_t)word(samples + 2 * k);
+        marks += (z == INT16_MIN) | (z == INT16_MAX);
+        out[k] = (double)gain * z - (double)offset;
+    }
+    return marks;
 }
 
-void same_values_words_high(const uint8_t *restrict samples, size_t n, float gain, float offset, double *restrict out)
+uint32_t same_values_words_high(const uint8_t *restrict samples, size_t n, float gain, float offset, double *restrict out)
 {
-    for (size_t k = 0; k < n; k++)
-        out[k] = (double)gain * (int16_t)__builtin_bswap16(word(samples + 2 * k)) - (double)offset;
+    uint32_t marks = 0;
+    for (size_t k = 0; k < n; k++) {
+        int16_t z = (int16_t)__builtin_bswap16(word(samples + 2 * k));
+        marks += (z == INT16_MIN) | (z == INT16_MAX);
+        out[k] = (double)gain * z - (double)offset;
+    }
+    return marks;
 }
 
 void same_keep(const uint8_t *restrict samples, size_t n, size_t step, uint8_t *restrict out)
@@ -88,7 +118,7 @@ static int16_t sample(const uint8_t *at, uint32_t kind, uint32_t order)
     return (int16_t)(order == 0 ? __builtin_bswap16(word(at)) : word(at));
 }
 
-static int step(const uint8_t *block, size_t length, struct same_place *p, double *value, double *time)
+static int step(const uint8_t *block, size_t length, struct same_place *p, double *value, double *time, uint32_t *mark)
 {
     size_t at = p->samples + (size_t)p->k * (p->kind + 1);
     uint32_t i = p->first + p->sparsing * p->k;
@@ -96,15 +126,21 @@ static int step(const uint8_t *block, size_t length, struct same_place *p, doubl
         return 0;
     if (!isfinite(p->gain) || !isfinite(p->offset) || !isfinite(p->interval) || !isfinite(p->shift))
         return 0;
-    *value = (double)p->gain * sample(block + at, p->kind, p->order) - (double)p->offset;
+    int16_t z = sample(block + at, p->kind, p->order);
+    *mark = p->kind == 0 ? (z == INT8_MIN) | (z == INT8_MAX) : (z == INT16_MIN) | (z == INT16_MAX);
+    *value = (double)p->gain * z - (double)p->offset;
     *time = (double)p->interval * i + p->shift;
     p->k++;
     return 1;
 }
 
-void same_walk(const uint8_t *restrict block, size_t length, struct same_place place, double *restrict out)
+uint32_t same_walk(const uint8_t *restrict block, size_t length, struct same_place place, double *restrict out)
 {
     double time;
-    while (step(block, length, &place, out, &time))
+    uint32_t mark, marks = 0;
+    while (step(block, length, &place, out, &time, &mark)) {
+        marks += mark;
         out++;
+    }
+    return marks;
 }

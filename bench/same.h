@@ -2,15 +2,15 @@
 #include <stddef.h>
 #include <stdint.h>
 
-/* The bits of the values of n samples, eight bytes each, the high byte first. */
-void same_fill_bytes(const uint8_t *samples, size_t n, float gain, float offset, uint8_t *out);
-void same_fill_words_low(const uint8_t *samples, size_t n, float gain, float offset, uint8_t *out);
-void same_fill_words_high(const uint8_t *samples, size_t n, float gain, float offset, uint8_t *out);
+/* The bits of the values of n samples, eight bytes each, the high byte first. Answers how many stand at the rail. */
+uint32_t same_fill_bytes(const uint8_t *samples, size_t n, float gain, float offset, uint8_t *out);
+uint32_t same_fill_words_low(const uint8_t *samples, size_t n, float gain, float offset, uint8_t *out);
+uint32_t same_fill_words_high(const uint8_t *samples, size_t n, float gain, float offset, uint8_t *out);
 
-/* The values themselves. */
-void same_values_bytes(const uint8_t *samples, size_t n, float gain, float offset, double *out);
-void same_values_words_low(const uint8_t *samples, size_t n, float gain, float offset, double *out);
-void same_values_words_high(const uint8_t *samples, size_t n, float gain, float offset, double *out);
+/* The values themselves; likewise. */
+uint32_t same_values_bytes(const uint8_t *samples, size_t n, float gain, float offset, double *out);
+uint32_t same_values_words_low(const uint8_t *samples, size_t n, float gain, float offset, double *out);
+uint32_t same_values_words_high(const uint8_t *samples, size_t n, float gain, float offset, double *out);
 
 /* Every step-th of n words, as it is or with its two bytes changed over; and n bytes as they are. */
 void same_keep(const uint8_t *samples, size_t n, size_t step, uint8_t *out);
@@ -19,7 +19,7 @@ void same_copy(const uint8_t *samples, size_t n, uint8_t *out);
 
 /*
  * A walk: where a segment's samples stand, and how they are scaled. A step tests its place against the block, as the
- * walk does, since anyone may have made it; then it answers the value and the time and moves on.
+ * walk does, since anyone may have made it; then it answers the value, the time and the mark and moves on.
  */
 struct same_place {
     size_t samples;
@@ -28,5 +28,5 @@ struct same_place {
     double shift;
 };
 
-/* The values of the points that a walk hands out until it is done. */
-void same_walk(const uint8_t *block, size_t length, struct same_place place, double *out);
+/* The values of the points that a walk hands out until it is done. Answers how many have the mark. */
+uint32_t same_walk(const uint8_t *block, size_t length, struct same_place place, double *out);

@@ -51,14 +51,23 @@ struct opened open_block(struct block b)
         .samples = {part_of(payload, layout, TESSARQUIN_PART_ARRAY_1), part_of(payload, layout, TESSARQUIN_PART_ARRAY_2)}};
 }
 
-struct block cut_out(const struct opened *o, uint32_t n, uint8_t *out, size_t room)
+struct alone cut_out(const struct opened *o, uint32_t n)
 {
-    uint8_t answer[TESSARQUIN_CUT_BYTES];
     struct block b = o->block;
+    size_t room = b.length + TESSARQUIN_CUT_MORE;
+    uint8_t *out = memory(room), answer[TESSARQUIN_CUT_BYTES];
     uint32_t refusal = tessarquin_cut(b.bytes, b.length, 1, 0, 0, n, o->order, out, room, answer, sizeof answer);
     if (refusal)
         refuse_question("a segment of ", o, (struct asked){.segment = n}, refusal);
-    return (struct block){b.file, out, (size_t)tessarquin_number(answer, TESSARQUIN_CUT_LENGTH)};
+    return (struct alone){out, open_block((struct block){b.file, out, (size_t)tessarquin_number(answer, TESSARQUIN_CUT_LENGTH)})};
+}
+
+void put_segment(struct alone alone, const struct opened *o, uint32_t n)
+{
+    const struct part *from[] = {&o->trigtime, &o->samples[0], &o->samples[1]};
+    const struct part *to[] = {&alone.opened.trigtime, &alone.opened.samples[0], &alone.opened.samples[1]};
+    for (size_t i = 0; i < 3; i++)
+        memcpy(alone.bytes + (to[i]->bytes - alone.bytes), from[i]->bytes + to[i]->length * (size_t)(n - 1), to[i]->length);
 }
 
 double trigger_time(const struct opened *o, uint32_t n)

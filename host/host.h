@@ -80,8 +80,18 @@ struct block read_block(const char *name);
 /* The block opened, or the end with its refusal. */
 struct opened open_block(struct block block);
 
-/* Segment n as a block of its own, in `room` bytes: its points have the same bits. */
-struct block cut_out(const struct opened *o, uint32_t n, uint8_t *out, size_t room);
+/* A segment as a block of its own: its points have the same bits and marks, and a call judges its trigger entry alone.
+   `bytes` is the caller's to free. */
+struct alone {
+    uint8_t *bytes;
+    struct opened opened;
+};
+
+struct alone cut_out(const struct opened *o, uint32_t n);
+
+/* Segment n of the same block, in the place of the one that was cut out: its trigger entry and its samples, as they
+   stand. A cut for each segment would judge the trigger times of all as often. */
+void put_segment(struct alone alone, const struct opened *o, uint32_t n);
 
 /* The TRIGGER_TIME of segment n, where the block has trigger times. */
 double trigger_time(const struct opened *o, uint32_t n);
@@ -103,10 +113,13 @@ struct asked {
 _Noreturn void refuse_block(struct block block, uint32_t refusal);
 _Noreturn void refuse_question(const char *what, const struct opened *o, struct asked asked, uint32_t refusal);
 
-/* ---- show.c, points.c: the commands */
+/* ---- show.c, rail.c, points.c: the commands */
 
 /* Numbers that were worked out have so many digits. */
 void show(const char *name, int digits);
+
+/* The lines for an array that has samples at the rail: how many they are, of all and of each segment that has any. */
+void show_rail(const struct opened *o, uint32_t array);
 
 /* How points are printed: as a table with a heading, or in plain lines; with so many digits, or 0 for as many as are
    needed to read the same number back. */

@@ -31,14 +31,20 @@ static struct part text_at(const struct opened *o, size_t at, size_t most)
     return (struct part){o->payload + at, tessarquin_field_text_length(o->payload + at, most)};
 }
 
-/* The value or the time of a point, as the library answers it. */
-static double point_of(const struct opened *o, uint32_t array, uint32_t segment, uint32_t k, enum tessarquin_point_number which)
+/* A point, as the library answers it. */
+struct point {
+    double value, time;
+    int mark;
+};
+
+static struct point point_of(const struct opened *o, uint32_t array, uint32_t segment, uint32_t k)
 {
     uint8_t answer[TESSARQUIN_POINT_BYTES];
     uint32_t refusal = tessarquin_point(o->block.bytes, o->block.length, array, segment, k, answer, sizeof answer);
     if (refusal)
         refuse_question("a point of ", o, (struct asked){array, segment, k, 0}, refusal);
-    return tessarquin_double(answer, which);
+    return (struct point){tessarquin_double(answer, TESSARQUIN_POINT_VALUE), tessarquin_double(answer, TESSARQUIN_POINT_TIME),
+                          tessarquin_number(answer, TESSARQUIN_POINT_MARK) != 0};
 }
 
 /* ---- lines */
@@ -232,7 +238,7 @@ static void show_time_rule(const struct opened *o, struct part unit)
 /* From the first point to the last of the first segment. */
 static void show_span(const struct opened *o, struct part unit)
 {
-    double first = point_of(o, 1, 1, 0, TESSARQUIN_POINT_TIME), last = point_of(o, 1, 1, o->points - 1, TESSARQUIN_POINT_TIME);
+    double first = point_of(o, 1, 1, 0).time, last = point_of(o, 1, 1, o->points - 1).time;
     print_name("span");
     print_double_in(last - first, unit);
     fputs(o->segments > 1 ? ", segment 1 from " : ", from ", stdout);
@@ -269,46 +275,60 @@ static void show_horizontal(const struct opened *o, struct part unit)
 
 /* ---- what is in the arrays */
 
-/* A point, by its place among those of all segments. */
-struct place {
-    int32_t sample;
-    size_t at;
+/* The samples of an array: the first of the lowest and of the highest, by their places among those of all segments, and
+   the mean of all. */
+struct samples {
+    size_t lowest, highest;
+    double mean;
 };
 
-static void print_place(const struct opened *o, uint32_t array, const char *name, struct place p, struct part unit)
-{
-    uint32_t segment = (uint32_t)(p.at / o->points) + 1, k = (uint32_t)(p.at % o->points);
-    printf("%s ", name);
-    print_double_in(point_of(o, array, segment, k, TESSARQUIN_POINT_VALUE), unit);
-    if (o->segments > 1)
-        printf(" (segment %s, point %s), ", grouped(segment), grouped(k));
-    else
-        printf(" (point %s), ", grouped(k));
-}
-
-/* The value rises with the sample, or falls where the gain is below 0: so the samples are compared, and the library is
-   asked for the values of two of them. A call for each segment would judge all trigger times as often. */
-static void show_array(const struct opened *o, uint32_t array, struct part unit)
+static struct samples samples_of(const struct opened *o, uint32_t array)
 {
     const uint8_t *samples = o->samples[array - 1].bytes;
     size_t count = (size_t)o->points * o->segments;
-    struct place lowest = {INT32_MAX, 0}, highest = {INT32_MIN, 0};
+    struct samples all = {0, 0, 0};
+    int32_t lowest = INT32_MAX, highest = INT32_MIN;
     int64_t sum = 0;
     for (size_t i = 0; i < count; i++) {
         int32_t sample = o->type == TESSARQUIN_WORD ? tessarquin_field_word(samples + 2 * i, o->order) : (int8_t)samples[i];
         sum += sample;
-        if (sample < lowest.sample)
-            lowest = (struct place){sample, i};
-        if (sample > highest.sample)
-            highest = (struct place){sample, i};
+        if (sample < lowest)
+            lowest = sample, all.lowest = i;
+        if (sample > highest)
+            highest = sample, all.highest = i;
     }
+    all.mean = (double)sum / (double)count;
+    return all;
+}
+
+/* Answers whether the point at this place has the mark. */
+static int print_place(const struct opened *o, uint32_t array, const char *name, size_t at, struct part unit)
+{
+    uint32_t segment = (uint32_t)(at / o->points) + 1, k = (uint32_t)(at % o->points);
+    struct point point = point_of(o, array, segment, k);
+    printf("%s ", name);
+    print_double_in(point.value, unit);
+    if (o->segments > 1)
+        printf(" (segment %s, point %s), ", grouped(segment), grouped(k));
+    else
+        printf(" (point %s), ", grouped(k));
+    return point.mark;
+}
+
+/* The value rises with the sample, or falls where the gain is below 0: so the samples are compared, and the library is
+   asked for two of them. Where neither stands at the rail, no other does. */
+static void show_array(const struct opened *o, uint32_t array, struct part unit)
+{
     float gain = float_at(o, TESSARQUIN_AT_VERTICAL_GAIN), offset = float_at(o, TESSARQUIN_AT_VERTICAL_OFFSET);
+    struct samples all = samples_of(o, array);
     printf("array %-11u", (unsigned)array);
-    print_place(o, array, "least", gain < 0 ? highest : lowest, unit);
-    print_place(o, array, "greatest", gain < 0 ? lowest : highest, unit);
+    int least_marked = print_place(o, array, "least", gain < 0 ? all.highest : all.lowest, unit);
+    int greatest_marked = print_place(o, array, "greatest", gain < 0 ? all.lowest : all.highest, unit);
     fputs("mean ", stdout);
-    print_double_in((double)gain * ((double)sum / (double)count) - (double)offset, unit);
+    print_double_in((double)gain * all.mean - (double)offset, unit);
     putchar('\n');
+    if (least_marked || greatest_marked)
+        show_rail(o, array);
 }
 
 /* The points that are good, over all segments: a roll or a sequence that was stopped has a rest that is not. */
@@ -318,7 +338,7 @@ static void show_valid(const struct opened *o)
     int64_t count = (int64_t)o->points * o->segments;
     printf("%-17s%s to %s", "valid points", grouped(first), grouped(last));
     if (first > 0 || last < count - 1)
-        printf("; least, greatest and mean are of all %s", grouped(count));
+        printf("; least, greatest, mean and samples at the rail are of all %s", grouped(count));
     putchar('\n');
 }
 

@@ -14,8 +14,8 @@
  *     tessarquin_layout     where do the descriptor and the other parts stand?
  *     tessarquin_user_text  where does the user text stand?
  *     tessarquin_label      where does the label stand, or is there none?
- *     tessarquin_point      one point, in volts and seconds
- *     tessarquin_fill       all the points of a segment, in volts
+ *     tessarquin_point      one point, in volts and seconds, and whether its sample stands at the rail
+ *     tessarquin_fill       all the points of a segment, in volts, and how many samples stand at the rail
  *     tessarquin_cut        a smaller block: some segments, every so many-th point, in either byte order
  *
  * What holds for all of them
@@ -56,8 +56,8 @@ extern "C" {
 
 /* The version of these calls. Below 1.0 the second number moves where a call takes or answers something else. */
 #define TESSARQUIN_VERSION_MAJOR 0
-#define TESSARQUIN_VERSION_MINOR 1
-#define TESSARQUIN_VERSION "0.1"
+#define TESSARQUIN_VERSION_MINOR 2
+#define TESSARQUIN_VERSION "0.2"
 
 /*
  * Why a call is refused, in the order of the checks: the first that applies is the number returned. Each entry is the
@@ -189,14 +189,25 @@ uint32_t tessarquin_label(const uint8_t *block, size_t block_len,
                           const uint8_t *fallback, size_t fallback_len,
                           uint8_t *answer, size_t answer_len);
 
-/* ---- points */
+/*
+ * ---- points
+ *
+ * A sample stands at the rail where it is the lowest or the highest number of its type: -128 or 127 of a byte, -32,768
+ * or 32,767 of a word. There are no numbers further out, so the true value may be beyond the one that is answered, and
+ * by how much nobody knows: a peak or a rise time that is taken there means nothing. Such a point has the mark 1.
+ *
+ * The mark 0 says no more than that the sample is another number. What was clipped before it was a sample has no mark,
+ * and an instrument may stop short of its type's numbers: MAX_VALUE and MIN_VALUE of the descriptor are its own limits,
+ * 32,512 for example where a word carries the eight bits that were measured.
+ */
 
-/* The doubles that tessarquin_point answers. */
+/* The numbers that tessarquin_point answers: two doubles and a mark. */
 enum tessarquin_point_number {
     TESSARQUIN_POINT_VALUE, /* in the unit VERTUNIT (volts, mostly): VERTICAL_GAIN times the sample less VERTICAL_OFFSET */
-    TESSARQUIN_POINT_TIME   /* in the unit HORUNIT (seconds, mostly), from the trigger */
+    TESSARQUIN_POINT_TIME,  /* in the unit HORUNIT (seconds, mostly), from the trigger */
+    TESSARQUIN_POINT_MARK   /* 1 where the sample stands at the rail, else 0; tessarquin_number reads it */
 };
-#define TESSARQUIN_POINT_BYTES 16u
+#define TESSARQUIN_POINT_BYTES 24u
 
 /*
  * Point `point`, from 0 to M-1, of segment `segment`, from 1 to g, of array 1 or 2: refusals 1 to 8, 20,
@@ -213,23 +224,38 @@ enum tessarquin_point_number {
  *
  *     tessarquin_cut(block, block_len, 1, 0, 0, segment, order, out, out_len, answer, answer_len);
  *
- * The points have the same bits, and those of a segment of 50 among 20,000 take 40 times fewer instructions. For the
- * values alone tessarquin_fill takes one call for a segment.
+ * The points have the same bits and marks, and those of a segment of 50 among 20,000 take 40 times fewer instructions.
+ * For the values alone, and how many of them have the mark, tessarquin_fill takes one call for a segment.
  */
 uint32_t tessarquin_point(const uint8_t *block, size_t block_len,
                           uint32_t array, uint32_t segment, uint32_t point,
                           uint8_t *answer, size_t answer_len);
 
 /*
- * The values of all M points of a segment: refusals 1 to 8, 20, 9 and 10, then 13 if answer_len is below M times
- * TESSARQUIN_VALUE_BYTES.
+ * The values of all M points of a segment, and how many of their samples stand at the rail: refusals 1 to 8, 20, 9 and
+ * 10, then 13 if answer_len is below TESSARQUIN_FILL_BYTES(M).
  *
- * The answer is M doubles, each the value that tessarquin_point answers, bit for bit. tessarquin_doubles reads them.
+ * The answer is M doubles, each the value that tessarquin_point answers, bit for bit, and behind them one number: how
+ * many of these points have the mark. tessarquin_doubles reads the values, and tessarquin_number(answer, M) the count.
+ * Which points they are, where the count is above 0, tessarquin_point says. For segment 1 of array 1:
+ *
+ *     uint8_t open[TESSARQUIN_OPEN_BYTES];
+ *     if (tessarquin_open(block, block_len, open, sizeof open) == TESSARQUIN_OK) {
+ *         size_t points = (size_t)tessarquin_number(open, TESSARQUIN_OPEN_POINTS);
+ *         size_t room = TESSARQUIN_FILL_BYTES(points);
+ *         uint8_t *answer = (uint8_t *)malloc(room);
+ *         if (answer && tessarquin_fill(block, block_len, 1, 1, answer, room) == TESSARQUIN_OK)
+ *             printf("%u of %u at the rail\n", (unsigned)tessarquin_number(answer, points), (unsigned)points);
+ *         free(answer);
+ *     }
  */
 uint32_t tessarquin_fill(const uint8_t *block, size_t block_len,
                          uint32_t array, uint32_t segment,
                          uint8_t *answer, size_t answer_len);
 #define TESSARQUIN_VALUE_BYTES 8u
+
+/* How many bytes the answer of a fill has, by the points of a segment: their values, and the count. */
+#define TESSARQUIN_FILL_BYTES(points) (((size_t)(points) + 1) * TESSARQUIN_VALUE_BYTES)
 
 /* ---- cuts */
 
@@ -258,7 +284,7 @@ enum tessarquin_cut_number {
  * enough. What is written obeys the rules: no call refuses it by 1 to 8 or 20. Changed are COMM_ORDER, the lengths of
  * TRIGTIME and of the arrays, WAVE_ARRAY_COUNT, FIRST_POINT, SPARSING_FACTOR (0 becomes 1), and with sn SUBARRAY_COUNT
  * and a SEGMENT_INDEX of 0; every other field is carried, LAST_VALID_PNT among them.
- * The kept points have their values and times bit for bit, and a cut of a cut is the one cut with sp the product,
+ * The kept points have their values, times and marks bit for bit. A cut of a cut is the one cut with sp the product,
  * fp = fp1 + sp1 * fp2, np the c of the second and sn that of the first, or of the second where the first is 0.
  */
 uint32_t tessarquin_cut(const uint8_t *block, size_t block_len,

@@ -126,7 +126,7 @@ static uint32_t point(struct slice block, uint32_t array, uint32_t segment, uint
 {
     struct slice answer = lend(room);
     uint32_t refusal = tessarquin_point(block.bytes, block.length, array, segment, k, answer.bytes, room);
-    take(answer, refusal, 2);
+    take(answer, refusal, 3);
     return refusal;
 }
 
@@ -134,7 +134,7 @@ static uint32_t fill(struct slice block, uint32_t array, uint32_t segment, size_
 {
     struct slice answer = lend(room);
     uint32_t refusal = tessarquin_fill(block.bytes, block.length, array, segment, answer.bytes, room);
-    take(answer, refusal, points);
+    take(answer, refusal, points + 1);
     return refusal;
 }
 
@@ -155,12 +155,12 @@ static void test_example(void)
     struct slice b = make(1, 0, 1, 2, 0);
     check(opens(b, 40) == 0, "open is refused");
     check(answers[0] == 1 && answers[1] == 2 && answers[2] == 1 && answers[3] == 1 && answers[4] == 0, "open answers other numbers");
-    check(point(b, 1, 1, 0, 16) == 0, "point 0 is refused");
-    check(answers[0] == 0xBFFC000000000000 && answers[1] == 0xBFF0000000000000, "point 0 has other bits");
-    check(point(b, 1, 1, 1, 24) == 0, "point 1 is refused");
-    check(answers[0] == 0x3FFC000000000000 && answers[1] == 0xBFE8000000000000, "point 1 has other bits");
-    check(fill(b, 1, 1, 2, 16) == 0, "fill is refused");
-    check(answers[0] == 0xBFFC000000000000 && answers[1] == 0x3FFC000000000000, "fill has other bits");
+    check(point(b, 1, 1, 0, 24) == 0, "point 0 is refused");
+    check(answers[0] == 0xBFFC000000000000 && answers[1] == 0xBFF0000000000000 && answers[2] == 0, "point 0 has other bits");
+    check(point(b, 1, 1, 1, 32) == 0, "point 1 is refused");
+    check(answers[0] == 0x3FFC000000000000 && answers[1] == 0xBFE8000000000000 && answers[2] == 0, "point 1 has other bits");
+    check(fill(b, 1, 1, 2, 24) == 0, "fill is refused");
+    check(answers[0] == 0xBFFC000000000000 && answers[1] == 0x3FFC000000000000 && answers[2] == 0, "fill has other bits");
     unmap(b);
 }
 
@@ -216,8 +216,9 @@ static void test_short_slices(void)
     static const uint32_t all[4] = {1, 0, 0, 0};
     struct slice b = make(1, 0, 1, 2, 0);
     check(opens(b, 39) == TESSARQUIN_ROOM && opens(b, 0) == TESSARQUIN_ROOM, "open");
-    check(point(b, 1, 1, 0, 15) == TESSARQUIN_ROOM, "point");
-    check(fill(b, 1, 1, 2, 15) == TESSARQUIN_ROOM, "fill");
+    check(point(b, 1, 1, 0, 23) == TESSARQUIN_ROOM && point(b, 1, 1, 0, 16) == TESSARQUIN_ROOM && point(b, 1, 1, 0, 24) == 0, "point");
+    check(fill(b, 1, 1, 2, 23) == TESSARQUIN_ROOM && fill(b, 1, 1, 2, 16) == TESSARQUIN_ROOM && fill(b, 1, 1, 2, 24) == 0, "fill");
+    check(TESSARQUIN_POINT_BYTES == 24 && TESSARQUIN_FILL_BYTES(2) == 24 && TESSARQUIN_FILL_BYTES(16776870u) == 134214968, "room as the header says it");
     struct slice exact = lend(359), less = lend(358);
     check(cut(b, all, 1, less, 16) == TESSARQUIN_ROOM, "cut, the block");
     check(cut(b, all, 1, exact, 15) == TESSARQUIN_ROOM, "cut, c and the length");
@@ -239,13 +240,79 @@ static void test_cut(int order)
     check(answers[0] == 3 && answers[1] == 379, "c or the length is another");
     struct slice kept = {out.pages, out.bytes, out.size, 379};
     for (uint32_t k = 0; k < 3; k++) {
-        check(point(kept, 1, 1, k, 16) == 0, "a kept point is refused");
-        uint64_t value = answers[0], time = answers[1];
-        check(point(b, 1, 2, 2 * k, 16) == 0, "a point is refused");
-        check(answers[0] == value && answers[1] == time, "a kept point has other bits");
+        check(point(kept, 1, 1, k, 24) == 0, "a kept point is refused");
+        uint64_t value = answers[0], time = answers[1], mark = answers[2];
+        check(point(b, 1, 2, 2 * k, 24) == 0, "a point is refused");
+        check(answers[0] == value && answers[1] == time && answers[2] == mark, "a kept point has other bits");
     }
     check(cut(b, setup, 2, out, 16) == TESSARQUIN_CHOICE, "an order that is none");
     give_back(out, 379);
+    unmap(b);
+}
+
+/* Two arrays of two segments of five samples: the four rails, one before each, and for words what a reader of single
+   bytes or of the other order would take for a rail. */
+static const int32_t rail_samples[2][2][2][5] = {
+    {{{-128, -127, 126, 127, 0}, {-1, 0, 1, -127, 126}}, {{127, 127, 127, 127, 127}, {0, 0, -128, 0, 0}}},
+    {{{-32768, -32767, 32766, 32767, 0}, {-128, 127, 128, -129, -1}}, {{32767, 32767, 32767, 32767, 32767}, {32512, -32513, -32768, 255, -32641}}}};
+
+static struct slice make_rails(int order, uint32_t type)
+{
+    size_t width = type + 1;
+    struct slice b = make(order, type, 2, 10, 1);
+    put(b.bytes, order, 60, 4, 10 * width);
+    put(b.bytes, order, 64, 4, 10 * width);
+    put(b.bytes, order, 116, 4, 10);
+    for (size_t i = 0; i < 20; i++)
+        put(b.bytes, order, DESCRIPTOR_BYTES + 32 + width * i, width, (uint64_t)(int64_t)rail_samples[type][i / 10][i / 5 % 2][i % 5]);
+    return b;
+}
+
+static int at_rail(uint32_t type, int32_t sample)
+{
+    return type == TESSARQUIN_BYTE ? sample == INT8_MIN || sample == INT8_MAX : sample == INT16_MIN || sample == INT16_MAX;
+}
+
+/* Each point has its sample's mark, and a fill counts them behind the values, in exactly so much room. */
+static void test_marks(int order, uint32_t type)
+{
+    now = "samples at the rail";
+    struct slice b = make_rails(order, type);
+    for (uint32_t i = 0; i < 4; i++) {
+        uint32_t array = i / 2 + 1, segment = i % 2 + 1;
+        const int32_t *samples = rail_samples[type][i / 2][i % 2];
+        uint64_t values[5], marks = 0;
+        for (uint32_t k = 0; k < 5; k++) {
+            check(point(b, array, segment, k, 23) == TESSARQUIN_ROOM && point(b, array, segment, k, 24) == 0, "a point");
+            check(answers[TESSARQUIN_POINT_MARK] == (uint64_t)at_rail(type, samples[k]), "a point has another mark");
+            values[k] = answers[TESSARQUIN_POINT_VALUE];
+            marks += answers[TESSARQUIN_POINT_MARK];
+        }
+        check(fill(b, array, segment, 5, 8 * 5 + 7) == TESSARQUIN_ROOM && fill(b, array, segment, 5, 8 * 5 + 8) == 0, "a fill");
+        check(memcmp(answers, values, sizeof values) == 0, "a fill has other values than the points");
+        check(answers[5] == marks, "a fill counts other marks than the points have");
+        check(fill(b, array, segment, 5, 8 * 5 + 100) == 0 && answers[5] == marks, "a fill in more room");
+    }
+    check(fill(b, 1, 1, 5, 48) == 0 && answers[5] == 2 && fill(b, 1, 2, 5, 48) == 0 && answers[5] == 0, "array 1 has other counts");
+    check(fill(b, 2, 1, 5, 48) == 0 && answers[5] == 5 && fill(b, 2, 2, 5, 48) == 0 && answers[5] == 1, "array 2 has other counts");
+    unmap(b);
+}
+
+/* Kept points have their marks, in the other order too: those from the second on of both segments and arrays. */
+static void test_marks_kept(int order, uint32_t type)
+{
+    now = "marks of a cut";
+    static const uint32_t setup[4] = {1, 0, 1, 0};
+    struct slice b = make_rails(order, type), out = lend(b.length);
+    check(cut(b, setup, !order, out, 16) == 0 && answers[0] == 4, "it is refused");
+    struct slice kept = {out.pages, out.bytes, out.size, (size_t)answers[1]};
+    for (uint32_t i = 0; i < 16; i++) {
+        uint32_t array = i / 8 + 1, segment = i / 4 % 2 + 1, k = i % 4;
+        check(point(kept, array, segment, k, 24) == 0, "a kept point is refused");
+        uint64_t mark = answers[TESSARQUIN_POINT_MARK];
+        check(point(b, array, segment, k + 1, 24) == 0 && answers[TESSARQUIN_POINT_MARK] == mark, "a kept point has another mark");
+    }
+    give_back(out, kept.length);
     unmap(b);
 }
 
@@ -287,9 +354,9 @@ static void test_headers(void)
         check(layout(b, 200) == 0 && answers[TESSARQUIN_LAYOUT_START] == start && answers[TESSARQUIN_LAYOUT_STARTS] == 0, "layout");
         check(user_text(b, 16) == 0 && answers[TESSARQUIN_USER_TEXT_START] == start + 346, "user text");
         for (uint32_t k = 0; k < 5; k++) {
-            check(point(nine, 1, 2, k, 16) == 0, "a point is refused");
-            uint64_t value = answers[0], time = answers[1];
-            check(point(b, 1, 2, k, 16) == 0 && answers[0] == value && answers[1] == time, "a point has other bits");
+            check(point(nine, 1, 2, k, 24) == 0, "a point is refused");
+            uint64_t value = answers[0], time = answers[1], mark = answers[2];
+            check(point(b, 1, 2, k, 24) == 0 && answers[0] == value && answers[1] == time && answers[2] == mark, "a point has other bits");
         }
         check(cut(b, all, 1, out, 16) == 0 && answers[1] == whole.length, "a cut is refused");
         check(memcmp(out.bytes, whole.bytes, whole.length) == 0, "a cut writes other bytes");
@@ -358,8 +425,8 @@ static void test_refusals(void)
     }
     struct slice b = make(0, 1, 2, 3, 0);
     check(point(b, 2, 0, 3, 0) == TESSARQUIN_CHOICE && point(b, 1, 0, 3, 0) == TESSARQUIN_SEGMENT, "array before segment");
-    check(point(b, 1, 3, 0, 16) == TESSARQUIN_SEGMENT && point(b, 1, 2, 3, 0) == TESSARQUIN_POINT, "segment before point");
-    check(point(b, 1, 2, 2, 16) == 0, "the last point");
+    check(point(b, 1, 3, 0, 24) == TESSARQUIN_SEGMENT && point(b, 1, 2, 3, 0) == TESSARQUIN_POINT, "segment before point");
+    check(point(b, 1, 2, 2, 24) == 0, "the last point");
     struct slice none = lend(0);
     static const uint32_t sparse[4] = {268435456, 0, 0, 0};
     check(cut(b, sparse, 0, none, 0) == TESSARQUIN_SPARSE, "12 before 13");
@@ -377,6 +444,10 @@ int main(void)
     test_labels();
     test_cut(0);
     test_cut(1);
+    for (int shape = 0; shape < 4; shape++) {
+        test_marks(shape % 2, (uint32_t)shape / 2);
+        test_marks_kept(shape % 2, (uint32_t)shape / 2);
+    }
     test_behind_names();
     test_headers();
     test_times(0);

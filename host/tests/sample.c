@@ -1,6 +1,6 @@
 /*
  * Writes the sample file of README to standard output: three shutdowns of a half bridge, sixteen words each, the low
- * byte first, with trigger times and a text for every field that has one.
+ * byte first, with trigger times and a text for every field that has one. The first overshoots, beyond the rail.
  */
 #include "blocks.h"
 
@@ -23,14 +23,20 @@ static void put_triggered(uint8_t *block)
     put(block, 1, 308, 2, 2026);
 }
 
-/* A bus voltage that falls from 400 V, faster from one shutdown to the next. */
+/* A bus voltage that falls from 400 V, faster from one shutdown to the next. The first overshoots by 30 V for two points,
+   and the samples end before that. */
+static int32_t sample(int32_t n, int32_t k)
+{
+    int32_t fall = k < 4 ? 0 : (k - 4) * (1200 + 400 * n), overshoot = n == 0 && (k == 4 || k == 5) ? 2400 : 0;
+    int32_t level = 32000 - (fall < 30000 ? fall : 30000) + 74 * (k % 3) + overshoot;
+    return level < INT16_MAX ? level : INT16_MAX;
+}
+
 static void put_samples(uint8_t *block, size_t at)
 {
-    for (uint32_t n = 0; n < SEGMENTS; n++)
-        for (uint32_t k = 0; k < POINTS; k++) {
-            int32_t fall = k < 4 ? 0 : (int32_t)((k - 4) * (600 + 200 * n));
-            put(block, 1, at + 2 * (n * POINTS + k), 2, (uint64_t)(16000 - (fall < 15000 ? fall : 15000) + 37 * (int32_t)(k % 3)));
-        }
+    for (int32_t n = 0; n < SEGMENTS; n++)
+        for (int32_t k = 0; k < POINTS; k++)
+            put(block, 1, at + 2 * (size_t)(n * POINTS + k), 2, (uint64_t)sample(n, k));
 }
 
 int main(void)
@@ -49,7 +55,7 @@ int main(void)
     put(block, 1, 92, 4, 21834);
     put_text(block, 96, "BUS");
     put(block, 1, 128, 4, SEGMENTS * POINTS - 1);
-    put_float(block, 1, 156, 0.025f);
+    put_float(block, 1, 156, 0.0125f);
     put_float(block, 1, 160, 0.0f);
     put_float(block, 1, 176, 2e-7f);
     put_double(block, 1, 180, -8e-7);

@@ -20,7 +20,7 @@ expect 0 "$(written "$cuts/new")" cut "$example" "$cuts/new" "${setup[@]}"
 [ "$(stat -c %a "$cuts/new")" = 640 ] || wrong 'a new file has another mode than the umask gives'
 cp "$cuts/new" "$folder/good"
 left new
-expect 0 '1 0 -0.75 1.75' points "$folder/good"
+expect 0 '1 0 -0.75 1.75 0' points "$folder/good"
 expect 0 "$(written here)" cut "$example" here "${setup[@]}"
 same "$cuts/here" "$folder/good" 'a cut to a file of this folder is another'
 left here

@@ -1,7 +1,7 @@
 # Files that are good, damaged, empty, too long, not there, no files, under other headers, with words before the #.
 
 expect 0 'block            359 bytes' show "$example"
-expect 0 '1 0 -1 -1.75' points "$example"
+expect 0 '1 0 -1 -1.75 0' points "$example"
 { printf 'C1:WF ALL,'; cat "$example"; printf '\n'; } >"$folder/words"
 expect 0 'block            360 bytes' show "$folder/words"
 [ "$(sed -n 2p "$folder/out")" = 'words before it  C1:WF ALL,' ] || wrong "words before the #: $(sed -n 2p "$folder/out")"
@@ -64,7 +64,8 @@ done
 
 { $run "$programs/made" 1 0 1 16776870 0; echo; } >"$folder/longest"
 expect 0 'block            16,777,228 bytes' show "$folder/longest"
-[ "$(tail -n 1 "$folder/out")" = 'array 1          least -64.25 (point 165), greatest 63.25 (point 238), mean -0.499971' ] || wrong "the longest block: $(tail -n 1 "$folder/out")"
+[ "$(tail -n 2 "$folder/out")" = 'array 1          least -64.25 (point 165), greatest 63.25 (point 238), mean -0.499971
+at the rail      array 1: 131,069 of 16,776,870 samples; the true value may be beyond, and a peak or a rise time there means nothing' ] || wrong "the longest block: $(tail -n 2 "$folder/out")"
 [ "$($run "$programs/first" <"$folder/longest")" = '-1.75 V at -1 s' ] || wrong 'the first program refuses the longest block'
 [ "$($run "$programs/first" <"$example")" = '-1.75 V at -1 s' ] || wrong 'the first program refuses the example'
 echo >>"$folder/longest"

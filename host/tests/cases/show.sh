@@ -40,7 +40,7 @@ line 'user text' 'two\x0Alines\x09e, shutdown x3'
 shown "$sample" 356 '\0\0\0\0\0\0\0\0\0\0\0\0\0\0'
 line 'user text' 'half bridg'
 shown "$sample" 196 '\316\251\0'
-line gain '0.025 Ω'
+line gain '0.0125 Ω'
 
 # the enums, in the low byte first; one that the template does not have
 for pair in 1:interleaved 5:complex 8:centered_RIS 9:peak_detect; do
@@ -102,7 +102,7 @@ shown "$sample" 156 '\315\314\314\275' 160 '\0\0\200\77'
 line gain '-0.1 V'
 line offset '1 V'
 line 'full range' '-3277.7 to 3275.8 V (samples -32768 to 32767)'
-line 'array 1' 'least -1608.4 V (segment 1, point 2), greatest -501 V (segment 3, point 15), mean -1274.47 V'
+line 'array 1' 'least -3277.7 V (segment 1, point 4), greatest -1001 V (segment 3, point 15), mean -2553.17 V'
 $run "$programs/made" 1 0 1 4 0 >"$folder/four"
 shown "$folder/four" 60 '\2\0\0\0\2\0\0\0' 116 '\2\0\0\0'
 line 'array 1' 'least -1.75 (point 0), greatest 1.75 (point 1), mean 0'
@@ -110,12 +110,12 @@ line 'array 2' 'least 5.25 (point 0), greatest 8.75 (point 1), mean 7'
 
 # points that are not valid; zeros without a sign; digits
 shown "$sample" 128 '\7\0\0\0'
-line 'valid points' '0 to 7; least, greatest and mean are of all 48'
+line 'valid points' '0 to 7; least, greatest, mean and samples at the rail are of all 48'
 shown "$example" 124 '\1\0\0\0\1\0\0\0' 156 '\0\0\0\200' 160 '\0\0\0\0' 180 '\0\0\0\0\0\0\0\200'
-line 'valid points' '1 to 1; least, greatest and mean are of all 2'
+line 'valid points' '1 to 1; least, greatest, mean and samples at the rail are of all 2'
 line 'full range' '0 to 0 (samples -128 to 127)'
 line 'times by' 'horizontal offset, 0'
 asked show --digits 17 "$sample"
-line 'array 1' 'least 125.00000186264515 V (segment 3, point 15), greatest 401.85000598803163 V (segment 1, point 2), mean 318.36719224404078 V'
+line 'array 1' 'least 125.00000186264515 V (segment 3, point 15), greatest 409.58750610332936 V (segment 1, point 4), mean 319.02135892045527 V'
 asked show "$sample" --digits 2
-line 'array 1' 'least 1.3e+02 V (segment 3, point 15), greatest 4e+02 V (segment 1, point 2), mean 3.2e+02 V'
+line 'array 1' 'least 1.3e+02 V (segment 3, point 15), greatest 4.1e+02 V (segment 1, point 4), mean 3.2e+02 V'

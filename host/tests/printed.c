@@ -2,6 +2,7 @@
 #include "tessarquin.h"
 
 #include <stdio.h>
+#include <stdlib.h>
 
 static uint8_t block[TESSARQUIN_BLOCK_MOST];
 
