@@ -2,11 +2,11 @@
  * answers on standard output with the number and with all slices as the call left them. src/runner.rs
  * is the other end.
  *
- * A request is ten numbers of four bytes, low byte first: the kind of call, five numbers for it, and
- * the lengths of block, fallback, out and answer; then the bytes of these four slices. A reply is two
- * numbers, what the call returned and which slices have lost the known bytes before them (bit 0
- * block, 1 fallback, 2 out, 3 answer); then the bytes of the slices again. Floats are lent, and come
- * back, as the bytes that they have in memory.
+ * A request is eleven numbers of four bytes, low byte first: the kind of call, five numbers for it, and
+ * the lengths of block, fallback, out, answer and marks; then the bytes of these five slices. A reply is
+ * what the call returned, in eight bytes, and in four which slices have lost the known bytes before them
+ * (bit 0 block, 1 fallback, 2 out, 3 answer, 4 marks); then the bytes of the slices again. Floats are
+ * lent, and come back, as the bytes that they have in memory.
  *
  * Every slice ends where memory that cannot be touched begins, so a call that reads or writes
  * behind a slice ends this program by a signal. */
@@ -23,8 +23,10 @@
 #include "measured.h"
 #include "tessarquin.h"
 
-enum kind { PROBE, OPEN, POINT, FILL, CUT, FLOATS, WALK, STEP, USER_TEXT, LABEL, LAYOUT, TEXT_PLACE, LABEL_PLACE };
-enum { BLOCK, FALLBACK, OUT, ANSWER, SLICES };
+enum kind {
+    PROBE, OPEN, POINT, FILL, CUT, FLOATS, WALK, STEP, USER_TEXT, LABEL, LAYOUT, TEXT_PLACE, LABEL_PLACE, WALKED_FLOATS
+};
+enum { BLOCK, FALLBACK, OUT, ANSWER, MARKS, SLICES };
 
 /* Memory that cannot be touched comes in pages; no machine has larger ones than this. */
 #define PAGE ((size_t)65536)
@@ -101,14 +103,14 @@ static uint32_t number(const uint8_t *bytes)
     return bytes[0] | (uint32_t)bytes[1] << 8 | (uint32_t)bytes[2] << 16 | (uint32_t)bytes[3] << 24;
 }
 
-static void put_number(uint8_t *bytes, uint32_t number)
+static void put_number(uint8_t *bytes, int width, uint64_t number)
 {
-    for (int i = 0; i < 4; i++)
+    for (int i = 0; i < width; i++)
         bytes[i] = (uint8_t)(number >> 8 * i);
 }
 
 /* Tries the slices themselves: changes the byte before one, or touches the byte behind it. */
-static uint32_t probe(const struct slice *slice, int behind)
+static uint64_t probe(const struct slice *slice, int behind)
 {
     volatile uint8_t *byte = behind ? slice->end : start(slice) - 1;
     *byte ^= 0xFF;
@@ -125,12 +127,12 @@ static double *floats(const struct slice *slice)
     return (double *)start(slice);
 }
 
-static uint32_t call(enum kind kind, const uint32_t n[5], const struct slice lent[SLICES])
+static uint64_t call(enum kind kind, const uint32_t n[5], const struct slice lent[SLICES])
 {
     const uint8_t *block = start(&lent[BLOCK]), *fallback = start(&lent[FALLBACK]);
-    uint8_t *out = start(&lent[OUT]), *answer = start(&lent[ANSWER]);
+    uint8_t *out = start(&lent[OUT]), *answer = start(&lent[ANSWER]), *marks = start(&lent[MARKS]);
     size_t block_len = lent[BLOCK].len, fallback_len = lent[FALLBACK].len;
-    size_t out_len = lent[OUT].len, answer_len = lent[ANSWER].len;
+    size_t out_len = lent[OUT].len, answer_len = lent[ANSWER].len, marks_len = lent[MARKS].len;
 
     switch (kind) {
     case PROBE:
@@ -147,9 +149,10 @@ static uint32_t call(enum kind kind, const uint32_t n[5], const struct slice len
         return measured_fill(block, block_len, n[0], n[1], floats(&lent[ANSWER]), answer_len / sizeof(double));
     case WALK:
         return compared_steps(block, block_len, n[0], n[1], floats(&lent[OUT]), out_len / sizeof(double),
-                              floats(&lent[ANSWER]), answer_len / sizeof(double));
+                              floats(&lent[ANSWER]), answer_len / sizeof(double), marks, marks_len);
     case STEP:
-        return compared_step(block, block_len, n[0], n[1], n[2], floats(&lent[ANSWER]), answer_len / sizeof(double));
+        return compared_step(block, block_len, n[0], n[1], n[2], floats(&lent[ANSWER]), answer_len / sizeof(double),
+                             marks, marks_len);
     case USER_TEXT:
         return compared_user_text(block, block_len, answer, answer_len);
     case LABEL:
@@ -160,6 +163,8 @@ static uint32_t call(enum kind kind, const uint32_t n[5], const struct slice len
         return tessarquin_user_text(block, block_len, answer, answer_len);
     case LABEL_PLACE:
         return tessarquin_label(block, block_len, fallback, fallback_len, answer, answer_len);
+    case WALKED_FLOATS:
+        return measured_walk(block, block_len, n[0], n[1], floats(&lent[ANSWER]), answer_len / sizeof(double));
     }
     fprintf(stderr, "no such call: %d\n", kind);
     exit(2);
@@ -169,7 +174,7 @@ int main(void)
 {
     static const struct rlimit none;
     static struct slice lent[SLICES];
-    uint8_t request[10 * 4], reply[2 * 4];
+    uint8_t request[(6 + SLICES) * 4], reply[8 + 4];
 
     if (setrlimit(RLIMIT_CORE, &none) != 0) /* a signal is an answer: it leaves no file behind */
         fail("setrlimit");
@@ -182,10 +187,10 @@ int main(void)
             if (lent[i].len != 0 && !take(start(&lent[i]), lent[i].len))
                 fail("input ends within a request");
         }
-        put_number(reply, call((enum kind)number(request), n, lent));
+        put_number(reply, 8, call((enum kind)number(request), n, lent));
         for (int i = 0; i < SLICES; i++)
             lost |= (uint32_t)spoiled(&lent[i]) << i;
-        put_number(reply + 4, lost);
+        put_number(reply + 8, 4, lost);
         fwrite(reply, 1, sizeof reply, stdout);
         for (int i = 0; i < SLICES; i++)
             fwrite(start(&lent[i]), 1, lent[i].len, stdout);

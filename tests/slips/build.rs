@@ -8,14 +8,19 @@ use std::{env, fs};
 const LAW: &str = "../src/law";
 const LIST: &str = "wrong.txt";
 /// What a version may be caught by with nothing to compare with; src/main.rs has a way for each.
-const MARKS: [&str; 4] =
-    ["breaks demand 3", "breaks a rule", "hangs on the header", "misplaces a part"];
+const FLAWS: [&str; 5] = [
+    "breaks demand 3",
+    "breaks a rule",
+    "hangs on the header",
+    "misplaces a part",
+    "misses the rail",
+];
 
 /// One entry of the list; a line left out has no wrong one.
 struct Entry {
     title: String,
     file: String,
-    marks: Vec<String>,
+    flaws: Vec<String>,
     right: String,
     wrong: String,
 }
@@ -31,11 +36,11 @@ fn main() {
         let folder = out.join(format!("wrong_{number}"));
         write_copy(&folder, &files, entry);
         let module = folder.join("mod.rs");
-        let Entry { title, marks, .. } = entry;
+        let Entry { title, flaws, .. } = entry;
         writeln!(modules, "#[path = {module:?}]\nmod wrong_{number};").expect("a string grows");
         writeln!(
             names,
-            "Version {{ title: {title:?}, marks: &{marks:?}, calls: calls_of!(wrong_{number}) }},"
+            "Version {{ title: {title:?}, flaws: &{flaws:?}, calls: calls_of!(wrong_{number}) }},"
         )
         .expect("a string grows");
     }
@@ -68,13 +73,13 @@ fn entries(list: &str) -> Vec<Entry> {
             let right =
                 part("- ").unwrap_or_else(|| panic!("{LIST}: \"{title}\" has no right line"));
             let wrong = part("+ ").unwrap_or("").to_string();
-            let (file, marks) = group[1].split_once(", ").unwrap_or((group[1], ""));
-            let marks: Vec<&str> = marks.split(", ").filter(|mark| !mark.is_empty()).collect();
-            for mark in &marks {
-                assert!(MARKS.contains(mark), "{LIST}: \"{title}\": \"{mark}\" is no mark");
+            let (file, flaws) = group[1].split_once(", ").unwrap_or((group[1], ""));
+            let flaws: Vec<&str> = flaws.split(", ").filter(|flaw| !flaw.is_empty()).collect();
+            for flaw in &flaws {
+                assert!(FLAWS.contains(flaw), "{LIST}: \"{title}\": \"{flaw}\" is no flaw");
             }
-            let marks = marks.into_iter().map(str::to_string).collect();
-            Entry { title, file: file.to_string(), marks, right: right.to_string(), wrong }
+            let flaws = flaws.into_iter().map(str::to_string).collect();
+            Entry { title, file: file.to_string(), flaws, right: right.to_string(), wrong }
         })
         .collect()
 }

@@ -7,16 +7,18 @@ use crate::headers;
 use crate::law::descriptor::*;
 use crate::law::numbers::{read_signed, store};
 use crate::law::rules::{open, Refusal};
+use crate::marks;
 use crate::pairs;
 use crate::places;
-use crate::questions::{place_calls, request, Extent};
+use crate::questions::{place_calls, Extent};
 use crate::random::Random;
 use crate::request::Call;
 use crate::results;
+use crate::rooms::request;
 use crate::shape::{any_order, Shape};
 
 /// 13 comes last: a cut that it refuses passes every other check.
-const ROOM: u32 = Refusal::Room as u32;
+const ROOM: u64 = Refusal::Room as u64;
 
 /// One case in so many has a long block.
 const LARGE_EVERY: u64 = 400;
@@ -44,6 +46,9 @@ pub fn run(checker: &mut Checker, seed: u64, case: u64) -> (String, Result<(), D
             let (a, b) = two_faults(random);
             let block = edges::all(&[a, b], random).bytes();
             (format!("two faults: {}; {}", a.name, b.name), ask_any(checker, &block, random))
+        }
+        6 if case % 16 == 14 => {
+            ("marks".into(), marks::check(checker, (case / 16) as usize, random))
         }
         6 => {
             let block = damaged(&right_draft(random), random);
@@ -78,6 +83,12 @@ pub fn two_headers(checker: &mut Checker, random: &mut Random) -> Result<(), Dif
 pub fn parts_and_texts(checker: &mut Checker, random: &mut Random) -> Result<(), Difference> {
     let draft = right_draft(random);
     places::check(checker, &draft, random)
+}
+
+/// The marks of a block's known samples.
+pub fn marks_known(checker: &mut Checker, random: &mut Random) -> Result<(), Difference> {
+    let turn = random.below(marks::TURNS);
+    marks::check(checker, turn, random)
 }
 
 fn take_turn(edges: &[&'static Edge], turn: u64) -> &'static Edge {

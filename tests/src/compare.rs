@@ -5,7 +5,7 @@ use std::collections::BTreeMap;
 use std::fmt::Display;
 
 /// The refusals that a run must see: all that the calls give.
-const REFUSALS: [u32; 14] = [1, 2, 3, 4, 5, 6, 7, 8, 9, 10, 11, 12, 13, 20];
+const REFUSALS: [u64; 14] = [1, 2, 3, 4, 5, 6, 7, 8, 9, 10, 11, 12, 13, 20];
 
 /// What has been compared so far.
 #[derive(Default)]
@@ -13,18 +13,20 @@ pub struct Tally {
     /// How often each call was made, by its name.
     pub calls: BTreeMap<&'static str, u64>,
     /// How often each number came, 0 among them; one that never came is not in it.
-    pub seen: BTreeMap<u32, u64>,
+    pub seen: BTreeMap<u64, u64>,
     /// Blocks that a cut wrote and that were opened.
     pub cut_blocks: u64,
     /// Blocks whose parts and texts stand where the calls say.
     pub placed_blocks: u64,
+    /// Blocks whose marks are those of the samples they were made of.
+    pub marked_blocks: u64,
 }
 
 impl Tally {
     /// What a run must have and this one has not, in words.
     pub fn missing(&self) -> Option<String> {
-        let came = |number: &u32| self.seen.contains_key(number);
-        let unseen: Vec<u32> = REFUSALS.into_iter().filter(|number| !came(number)).collect();
+        let came = |number: &u64| self.seen.contains_key(number);
+        let unseen: Vec<u64> = REFUSALS.into_iter().filter(|number| !came(number)).collect();
         if !unseen.is_empty() {
             return Some(format!("refusals {unseen:?} were never seen"));
         }
@@ -34,7 +36,10 @@ impl Tally {
         if self.cut_blocks == 0 {
             return Some("no cut block was opened".into());
         }
-        (self.placed_blocks == 0).then(|| "no block's parts and texts were looked for".into())
+        if self.placed_blocks == 0 {
+            return Some("no block's parts and texts were looked for".into());
+        }
+        (self.marked_blocks == 0).then(|| "no block's marks were looked for".into())
     }
 
     /// How many calls were made.
@@ -72,17 +77,18 @@ impl<'a> Checker<'a> {
             self.difference(request, &[format!("the independent implementation: {why}")])
         })?;
         if self.verbose {
-            println!("{}: {}", describe(request), expected.number);
+            println!("{}: {}", describe(request), request.call.in_words(expected.number));
         }
         let came = self.core.ask(request).map_err(|why| {
-            self.difference(request, &[format!("expected {}, and {why}", expected.number)])
+            let number = request.call.in_words(expected.number);
+            self.difference(request, &[format!("expected {number}, and {why}")])
         })?;
         *self.tally.calls.entry(request.call.name()).or_default() += 1;
-        if request.call.gives_refusal() {
-            *self.tally.seen.entry(expected.number).or_default() += 1;
+        if let Some(refusal) = request.call.refusal(expected.number) {
+            *self.tally.seen.entry(refusal).or_default() += 1;
         }
         if came != expected {
-            return Err(self.difference(request, &differences(&expected, &came)));
+            return Err(self.difference(request, &differences(request.call, &expected, &came)));
         }
         Ok(came)
     }
@@ -98,15 +104,16 @@ impl<'a> Checker<'a> {
 }
 
 fn describe(request: &Request) -> String {
-    let Request { call, block, out, answer, .. } = request;
-    let (block, out, answer) = (block.len(), out.len(), answer.len());
-    format!("{call}; block of {block}, out of {out}, answer of {answer}")
+    let Request { call, block, out, answer, marks, .. } = request;
+    let (block, out, answer, marks) = (block.len(), out.len(), answer.len(), marks.len());
+    format!("{call}; block of {block}, out of {out}, answer of {answer}, marks of {marks}")
 }
 
-fn differences(expected: &Reply, came: &Reply) -> Vec<String> {
+fn differences(call: Call, expected: &Reply, came: &Reply) -> Vec<String> {
     let mut lines = vec![];
     if expected.number != came.number {
-        lines.push(format!("number: expected {}, came {}", expected.number, came.number));
+        let [expected, came] = [expected, came].map(|reply| call.in_words(reply.number));
+        lines.push(format!("number: expected {expected}, came {came}"));
     }
     for slice in &came.spoiled {
         lines.push(format!("{slice}: the bytes before it have changed"));
@@ -115,6 +122,7 @@ fn differences(expected: &Reply, came: &Reply) -> Vec<String> {
     lines.extend(slice_difference("fallback", &expected.fallback, &came.fallback));
     lines.extend(slice_difference("out", &expected.out, &came.out));
     lines.extend(slice_difference("answer", &expected.answer, &came.answer));
+    lines.extend(slice_difference("marks", &expected.marks, &came.marks));
     lines
 }
 
@@ -124,7 +132,8 @@ pub fn reply_difference(first: &Reply, second: &Reply) -> Option<String> {
         .then(|| format!("numbers {} and {}", first.number, second.number));
     let out = || slice_difference("out", &first.out, &second.out);
     let answer = || slice_difference("answer", &first.answer, &second.answer);
-    numbers.or_else(out).or_else(answer)
+    let marks = || slice_difference("marks", &first.marks, &second.marks);
+    numbers.or_else(out).or_else(answer).or_else(marks)
 }
 
 /// Where two contents of a slice first differ, with the bytes from there on.

@@ -1,6 +1,7 @@
 //! The document's checked examples and the requests', and the descriptor's table held against its
-//! own words. places.rs has what the calls answer that tell where things stand.
+//! own words. marks.rs has walks and marks, places.rs where things stand.
 
+mod marks;
 mod places;
 
 use crate::draft::Draft;
@@ -11,6 +12,7 @@ use crate::law::numbers::{read, read_signed, store, Order};
 use crate::law::points::{sample, time, value};
 use crate::law::rules::{open, Opened, Refusal};
 use crate::law::{tested, texts};
+use crate::samples::bytes;
 
 const BOTH: [Order; 2] = [Order::HiFirst, Order::LoFirst];
 
@@ -18,10 +20,7 @@ const BOTH: [Order; 2] = [Order::HiFirst, Order::LoFirst];
 fn draft(order: Order, samples: &[i64], width: usize) -> Draft {
     let mut draft = Draft::plain(order);
     draft.set_width(width);
-    draft.array_1 = vec![0; width * samples.len()];
-    for (place, sample) in draft.array_1.chunks_mut(width).zip(samples) {
-        store(place, order, *sample as u64);
-    }
+    draft.array_1 = bytes(order, width, samples);
     draft.set_long(WAVE_ARRAY_COUNT, samples.len() as i64);
     draft.fit_lengths();
     draft
@@ -43,7 +42,7 @@ fn scaled(mut draft: Draft, gain: f32, offset: f32) -> Draft {
     draft
 }
 
-/// The block that the document lists, and the bits of its points' values and times.
+/// The block that the document lists, and of its points the bits of value and time, and the mark.
 fn listed() -> Draft {
     let mut draft = scaled(draft(Order::LoFirst, &[-3, 4], 1), 0.5, 0.25);
     draft.set_float(HORIZ_INTERVAL, 0.25f32.to_bits());
@@ -51,9 +50,9 @@ fn listed() -> Draft {
     draft
 }
 
-const LISTED: [[u64; 2]; 2] = [
-    [0xBFFC_0000_0000_0000, 0xBFF0_0000_0000_0000],
-    [0x3FFC_0000_0000_0000, 0xBFE8_0000_0000_0000],
+const LISTED: [[u64; 3]; 2] = [
+    [0xBFFC_0000_0000_0000, 0xBFF0_0000_0000_0000, 0],
+    [0x3FFC_0000_0000_0000, 0xBFE8_0000_0000_0000, 0],
 ];
 
 /// The block of two segments: M 5, WORD, TRIGTIME 32 bytes.
@@ -209,39 +208,15 @@ fn listing() {
     let mut answer = [0; 40];
     assert_eq!(calls::open(&block, &mut answer), 0);
     assert_eq!(numbers(&answer), [1, 2, 1, 1, 0]);
-    let mut values = [0; 16];
+    let mut values = [0; 24];
     assert_eq!(calls::fill(&block, 1, 1, &mut values), 0);
-    for (k, bits) in LISTED.iter().enumerate() {
-        let mut answer = [0; 16];
+    for (k, listed) in LISTED.iter().enumerate() {
+        let mut answer = [0; 24];
         assert_eq!(calls::point(&block, 1, 1, k as u32, &mut answer), 0);
-        assert_eq!(numbers(&answer), bits);
-        assert_eq!(numbers(&values)[k], bits[0]);
+        assert_eq!(numbers(&answer), listed);
+        assert_eq!(numbers(&values)[k], listed[0]);
     }
-}
-
-#[test]
-fn a_walk_hands_out_its_points_and_is_done() {
-    let block = listed().bytes();
-    let [mut values, mut times, mut floats] = [[7.0; 3]; 3];
-    assert_eq!(tested::steps(&block, 1, 1, &mut values, &mut times), 0);
-    assert_eq!(tested::floats(&block, 1, 1, &mut floats), 0);
-    for (k, bits) in LISTED.iter().enumerate() {
-        let mut point = [7.0; 2];
-        assert_eq!(tested::step(&block, 1, 1, k as u32, &mut point), 2);
-        assert_eq!(point.map(f64::to_bits), *bits);
-        assert_eq!([values[k], times[k]], point);
-        assert_eq!(floats[k], values[k]);
-    }
-    assert_eq!([values[2], times[2], floats[2]], [7.0; 3]);
-    for behind in [2, 3, u32::MAX] {
-        assert_eq!(tested::step(&block, 1, 1, behind, &mut [7.0; 2]), 0);
-    }
-    for (array, segment, number) in [(0, 1, 9), (2, 1, 9), (1, 0, 10), (1, 2, 10)] {
-        assert_eq!(tested::steps(&block, array, segment, &mut values, &mut times), number);
-        assert_eq!(tested::step(&block, array, segment, 0, &mut [7.0; 2]), 0);
-    }
-    assert_eq!(tested::steps(&block, 1, 1, &mut [7.0; 2], &mut [7.0; 1]), 13);
-    assert_eq!(tested::steps(&block, 1, 1, &mut [7.0; 1], &mut [7.0; 2]), 13);
+    assert_eq!(numbers(&values)[2], 0);
 }
 
 #[test]

@@ -3,9 +3,10 @@
 
 use crate::compare::{reply_difference, Checker, Difference};
 use crate::draft::Draft;
-use crate::questions::{request, Extent};
+use crate::questions::Extent;
 use crate::random::Random;
 use crate::request::{Call, Reply, Request};
+use crate::rooms::request;
 
 /// Each call of a block, and of its payload under a header with another number of digits.
 pub fn check(checker: &mut Checker, draft: &Draft, random: &mut Random) -> Result<(), Difference> {

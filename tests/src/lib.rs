@@ -8,13 +8,16 @@ pub mod edges;
 pub mod floats;
 pub mod headers;
 pub mod law;
+pub mod marks;
 pub mod pairs;
 pub mod places;
 pub mod questions;
 pub mod random;
 pub mod request;
 pub mod results;
+pub mod rooms;
 pub mod runner;
+pub mod samples;
 pub mod shape;
 pub mod times;
 

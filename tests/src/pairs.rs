@@ -1,10 +1,11 @@
 //! Demand 3, on the core's own answers: a cut of a cut is the one combined cut, and every kept
-//! point has the value and time it had in the first block.
+//! point has the value, time and mark it had in the first block.
 
 use crate::compare::{reply_difference, Checker, Difference};
-use crate::questions::{exact_request, with_room, Extent};
+use crate::questions::Extent;
 use crate::random::Random;
 use crate::request::{Call, Reply};
+use crate::rooms::{exact_request, with_room, Room};
 
 /// Two cuts, one after the other, and the points of what they leave.
 pub fn check(checker: &mut Checker, block: &[u8], random: &mut Random) -> Result<(), Difference> {
@@ -19,11 +20,13 @@ pub fn check(checker: &mut Checker, block: &[u8], random: &mut Random) -> Result
     // b is of any kind: it may be refused, and its room may be short.
     let extent = Extent::of(first_block);
     let b = if random.once_in(4) { extent.cut(random) } else { extent.right_cut(random) };
-    let full = checker.ask(&with_room(random, b, first_block, first_block.len(), 16))?;
+    let all_room = Room::for_cut(first_block.len(), 16);
+    let full = checker.ask(&with_room(random, b, first_block, all_room))?;
     let need = if full.number == 0 { full.written().len() } else { first_block.len() };
     let out_room = random.pick(&[need, need, need, need - 1, need + 9]);
     let answer_room = random.pick(&[16, 16, 16, 16, 15, 20]);
-    let of_cut = with_room(random, b, first_block, out_room, answer_room);
+    let room = Room::for_cut(out_room, answer_room);
+    let of_cut = with_room(random, b, first_block, room);
     let second = checker.ask(&of_cut)?;
     if second.number == 10 || second.number == 11 {
         // A segment or point that the first cut left out may well be in the first block.
@@ -70,7 +73,8 @@ fn same(of_cut: &Reply, at_once: &Reply, a: Call, b: Call) -> Result<(), Differe
     }
 }
 
-/// The points of a cut block against the points of the first block that they are.
+/// The points of a cut block against the points of the first block that they are: value, time and
+/// mark.
 fn kept_points(
     checker: &mut Checker,
     block: &[u8],

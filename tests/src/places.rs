@@ -3,9 +3,10 @@
 
 use crate::compare::{Checker, Difference};
 use crate::draft::Draft;
-use crate::questions::{exact_request, place_calls};
+use crate::questions::place_calls;
 use crate::random::Random;
 use crate::request::{Call, Reply, Request};
+use crate::rooms::exact_request;
 
 /// Which numbers of a layout are the lengths and which the starts, by their first.
 const LENGTHS: usize = 5;
@@ -28,7 +29,7 @@ pub fn check(checker: &mut Checker, draft: &Draft, random: &mut Random) -> Resul
 /// The reply to a call that nothing refuses.
 fn accepted(checker: &mut Checker, request: &Request) -> Result<Reply, Difference> {
     let reply = checker.ask(request)?;
-    same(&format!("{}: refusal", request.call), u64::from(reply.number), 0)?;
+    same(&format!("{}: refusal", request.call), reply.number, 0)?;
     Ok(reply)
 }
 

@@ -1,15 +1,8 @@
-//! What is asked of a block: calls with numbers at and beyond their limits, slices with just
-//! enough room and one byte less.
+//! What is asked of a block: calls with numbers at and beyond their limits.
 
-use crate::law::cut::CUT_MORE;
 use crate::law::rules::{open, LAST_PLACE};
-use crate::law::texts;
 use crate::random::Random;
-use crate::request::{Call, Request, LAW};
-
-/// The fill of a very long segment, its walk and a very long text are asked with too little room,
-/// and take no gigabyte.
-const MOST_ROOM: usize = 1 << 22;
+use crate::request::Call;
 
 /// The limits of a block's questions.
 pub struct Extent {
@@ -77,6 +70,10 @@ impl Extent {
         Call::Floats { array: self.array(random), segment: self.segment(random) }
     }
 
+    fn walked_floats(&self, random: &mut Random) -> Call {
+        Call::WalkedFloats { array: self.array(random), segment: self.segment(random) }
+    }
+
     fn walk(&self, random: &mut Random) -> Call {
         Call::Walk { array: self.array(random), segment: self.segment(random) }
     }
@@ -98,9 +95,10 @@ impl Extent {
 
     /// Each test call once.
     pub fn test_calls(&self, random: &mut Random) -> Vec<Call> {
-        let (floats, walk, step) = (self.floats(random), self.walk(random), self.step(random));
+        let (floats, walked_floats) = (self.floats(random), self.walked_floats(random));
+        let (walk, step) = (self.walk(random), self.step(random));
         let label = Call::Label { fallback: fallback(random) };
-        vec![floats, walk, step, Call::UserText, label]
+        vec![floats, walked_floats, walk, step, Call::UserText, label]
     }
 
     fn array(&self, random: &mut Random) -> u32 {
@@ -179,104 +177,4 @@ pub fn place_calls(random: &mut Random) -> [Call; 3] {
 fn fallback(random: &mut Random) -> usize {
     let any = random.below(40);
     random.pick(&[0, 1, 15, 16, 17, 300, any])
-}
-
-/// A request with room that is often just enough, sometimes one byte or one float short.
-pub fn request<'a>(random: &mut Random, call: Call, block: &'a [u8]) -> Request<'a> {
-    let (out_need, answer_need) = need(call, block);
-    let unit = if call.takes_floats() { 8 } else { 1 };
-    // A cut is hardly longer than its block.
-    let most = if matches!(call, Call::Cut { .. }) { usize::MAX } else { MOST_ROOM };
-    let mut room = |need: usize| (unit * room(random, need / unit)).min(most);
-    let out_room = if out_need == 0 { 0 } else { room(out_need) };
-    let answer_room = room(answer_need);
-    with_room(random, call, block, out_room, answer_room)
-}
-
-/// A request with exactly the room that the answer takes.
-pub fn exact_request<'a>(random: &mut Random, call: Call, block: &'a [u8]) -> Request<'a> {
-    let (out_need, answer_need) = need(call, block);
-    with_room(random, call, block, out_need, answer_need)
-}
-
-/// A request whose outputs hold random bytes.
-pub fn with_room<'a>(
-    random: &mut Random,
-    call: Call,
-    block: &'a [u8],
-    out_room: usize,
-    answer_room: usize,
-) -> Request<'a> {
-    let fallback = match call {
-        Call::Label { fallback } | Call::LabelPlace { fallback } => random.bytes(fallback),
-        _ => vec![],
-    };
-    let mut lent = |room: usize| match call.takes_floats() {
-        true => without_nans(random.bytes(room)),
-        false => random.bytes(room),
-    };
-    let (out, answer) = (lent(out_room), lent(answer_room));
-    Request { call, block, fallback, out, answer }
-}
-
-/// Bytes of floats, none of them a NaN: a contract says that a float is as it was, and the logic has
-/// one NaN, so it does not say which one a NaN is.
-fn without_nans(mut bytes: Vec<u8>) -> Vec<u8> {
-    for float in bytes.chunks_mut(8) {
-        // An exponent of all ones, half in each of the two high bytes, loses one of them.
-        if float[7] & 0x7F == 0x7F && float[6] & 0xF0 == 0xF0 {
-            float[6] &= 0xEF;
-        }
-    }
-    bytes
-}
-
-/// The bytes of `out` and `answer` that an answer takes; for a refused call, of some answer.
-fn need(call: Call, block: &[u8]) -> (usize, usize) {
-    match call {
-        Call::Open => (0, 40),
-        Call::Point { .. } => (0, 16),
-        Call::Fill { .. } => (0, 8 * Extent::of(block).points as usize),
-        Call::Cut { .. } => {
-            let (out, answer) = (vec![0; block.len() + CUT_MORE], vec![0; 16]);
-            let reply = LAW.reply(&Request { call, block, fallback: vec![], out, answer });
-            (if reply.number == 0 { reply.written().len() } else { 400 }, 16)
-        }
-        Call::Layout => (0, 200),
-        Call::TextPlace => (0, 16),
-        Call::LabelPlace { .. } => (0, 24),
-        Call::Floats { .. } => (0, 8 * Extent::of(block).points as usize),
-        Call::Walk { .. } => {
-            let points = Extent::of(block).points as usize;
-            (8 * points, 8 * points)
-        }
-        Call::Step { .. } => (0, 16),
-        Call::UserText => (0, texts::user_text(block).len()),
-        Call::Label { fallback } => (0, texts::label(block, &vec![0; fallback]).len()),
-    }
-}
-
-fn room(random: &mut Random, need: usize) -> usize {
-    match random.below(12) {
-        0 | 1 => need.saturating_sub(1),
-        2 => random.below(need.max(1)),
-        3 => random.pick(&[0, 1, 8, need / 2, need.saturating_sub(8)]),
-        4..=6 => need + 1 + random.below(30),
-        _ => need,
-    }
-}
-
-#[cfg(test)]
-mod tests {
-    use super::*;
-
-    #[test]
-    fn no_nan_is_lent() {
-        let any = Random::new(9, 0).bytes(800_000);
-        let least = f64::from_bits(0x7FF0_0000_0000_0001);
-        let nans = [f64::NAN, -f64::NAN, least, -least].map(f64::to_le_bytes).concat();
-        for float in without_nans([any, nans].concat()).chunks(8) {
-            assert!(!f64::from_le_bytes(float.try_into().expect("eight bytes")).is_nan());
-        }
-    }
 }

@@ -18,9 +18,11 @@ pub enum Call {
     LabelPlace { fallback: usize },
     // A fill of floats, in Rattle; they go to `answer`.
     Floats { array: u32, segment: u32 },
-    // A walk until it is done: the values go to `out`, the times to `answer`.
+    // The same floats by a walk, point by point.
+    WalkedFloats { array: u32, segment: u32 },
+    // A walk until it is done: the values go to `out`, the times to `answer`, the marks to `marks`.
     Walk { array: u32, segment: u32 },
-    // The step of a walk after the first k.
+    // The step of a walk after the first k; its mark goes to `marks`.
     Step { array: u32, segment: u32, k: u32 },
     // The user text itself.
     UserText,
@@ -30,7 +32,7 @@ pub enum Call {
 
 impl Call {
     /// How many calls there are, by name.
-    pub const NAMES: usize = 12;
+    pub const NAMES: usize = 13;
 
     pub fn name(&self) -> &'static str {
         match self {
@@ -42,6 +44,7 @@ impl Call {
             Call::TextPlace => "place of user text",
             Call::LabelPlace { .. } => "place of label",
             Call::Floats { .. } => "fill of floats",
+            Call::WalkedFloats { .. } => "walk of floats",
             Call::Walk { .. } => "walk",
             Call::Step { .. } => "step",
             Call::UserText => "user text",
@@ -49,14 +52,32 @@ impl Call {
         }
     }
 
-    /// Whether the number returned is 0 or that of a refusal. The other calls return a length.
-    pub fn gives_refusal(&self) -> bool {
-        !matches!(self, Call::Step { .. } | Call::UserText | Call::Label { .. })
+    /// The refusal in the number returned, or 0 for none; the calls without one return a length.
+    pub fn refusal(&self, returned: u64) -> Option<u64> {
+        match self {
+            Call::Step { .. } | Call::UserText | Call::Label { .. } => None,
+            // In the low half stands how many samples are at the rail.
+            Call::Floats { .. } | Call::WalkedFloats { .. } => Some(returned >> 32),
+            _ => Some(returned),
+        }
+    }
+
+    /// The number returned, as a difference tells of it.
+    pub fn in_words(&self, returned: u64) -> String {
+        match self {
+            Call::Floats { .. } | Call::WalkedFloats { .. } => {
+                format!("{} with {} at the rail", returned >> 32, returned & 0xFFFF_FFFF)
+            }
+            _ => returned.to_string(),
+        }
     }
 
     /// Whether `out` and `answer` are lent as floats.
     pub fn takes_floats(&self) -> bool {
-        matches!(self, Call::Floats { .. } | Call::Walk { .. } | Call::Step { .. })
+        matches!(
+            self,
+            Call::Floats { .. } | Call::WalkedFloats { .. } | Call::Walk { .. } | Call::Step { .. }
+        )
     }
 }
 
@@ -70,6 +91,7 @@ impl fmt::Display for Call {
             }
             Call::Fill { array, segment }
             | Call::Floats { array, segment }
+            | Call::WalkedFloats { array, segment }
             | Call::Walk { array, segment } => write!(f, ": array {array}, segment {segment}"),
             Call::Cut { sp, np, fp, sn, order } => {
                 write!(f, ": SP {sp}, NP {np}, FP {fp}, SN {sn}, order {order}")
@@ -85,8 +107,8 @@ impl fmt::Display for Call {
 }
 
 /// A call with the slices lent to it, and what they hold before it. `fallback` is empty but for a
-/// label and its place, and `out` but for a cut and a walk. Floats are lent as their bytes, the low
-/// byte first.
+/// label and its place, `out` but for a cut and a walk, `marks` but for a walk and a step. Floats are
+/// lent as their bytes, the low byte first.
 #[derive(Clone)]
 pub struct Request<'a> {
     pub call: Call,
@@ -94,16 +116,18 @@ pub struct Request<'a> {
     pub fallback: Vec<u8>,
     pub out: Vec<u8>,
     pub answer: Vec<u8>,
+    pub marks: Vec<u8>,
 }
 
 /// The number returned, and what the slices hold after the call.
 #[derive(PartialEq)]
 pub struct Reply {
-    pub number: u32,
+    pub number: u64,
     pub block: Vec<u8>,
     pub fallback: Vec<u8>,
     pub out: Vec<u8>,
     pub answer: Vec<u8>,
+    pub marks: Vec<u8>,
     /// The slices, by name, that no longer have their known bytes before them.
     pub spoiled: Vec<&'static str>,
 }
@@ -139,9 +163,10 @@ pub struct Calls {
     pub layout: fn(&[u8], &mut [u8]) -> u32,
     pub text_place: fn(&[u8], &mut [u8]) -> u32,
     pub label_place: fn(&[u8], &[u8], &mut [u8]) -> u32,
-    pub floats: fn(&[u8], u32, u32, &mut [f64]) -> u32,
-    pub steps: fn(&[u8], u32, u32, &mut [f64], &mut [f64]) -> u32,
-    pub step: fn(&[u8], u32, u32, u32, &mut [f64]) -> usize,
+    pub floats: fn(&[u8], u32, u32, &mut [f64]) -> u64,
+    pub walked_floats: fn(&[u8], u32, u32, &mut [f64]) -> u64,
+    pub steps: fn(&[u8], u32, u32, &mut [f64], &mut [f64], &mut [u8]) -> u32,
+    pub step: fn(&[u8], u32, u32, u32, &mut [f64], &mut [u8]) -> usize,
     pub user_text: fn(&[u8], &mut [u8]) -> usize,
     pub label: fn(&[u8], &[u8], &mut [u8]) -> usize,
 }
@@ -160,6 +185,7 @@ macro_rules! calls_of {
             text_place: places::text_place,
             label_place: places::label_place,
             floats: tested::floats,
+            walked_floats: tested::walked_floats,
             steps: tested::steps,
             step: tested::step,
             user_text: tested::user_text,
@@ -174,38 +200,44 @@ pub const LAW: Calls = calls_of!(crate::law);
 impl Calls {
     pub fn reply(&self, request: &Request) -> Reply {
         let (mut out, mut answer) = (request.out.clone(), request.answer.clone());
+        let mut marks = request.marks.clone();
         let (block, fallback) = (request.block, &request.fallback);
         let number = match request.call {
-            Call::Open => (self.open)(block, &mut answer),
+            Call::Open => (self.open)(block, &mut answer).into(),
             Call::Point { array, segment, point } => {
-                (self.point)(block, array, segment, point, &mut answer)
+                (self.point)(block, array, segment, point, &mut answer).into()
             }
-            Call::Fill { array, segment } => (self.fill)(block, array, segment, &mut answer),
+            Call::Fill { array, segment } => (self.fill)(block, array, segment, &mut answer).into(),
             Call::Cut { sp, np, fp, sn, order } => {
-                (self.cut)(block, sp, np, fp, sn, order, &mut out, &mut answer)
+                (self.cut)(block, sp, np, fp, sn, order, &mut out, &mut answer).into()
             }
-            Call::Layout => (self.layout)(block, &mut answer),
-            Call::TextPlace => (self.text_place)(block, &mut answer),
-            Call::LabelPlace { .. } => (self.label_place)(block, fallback, &mut answer),
+            Call::Layout => (self.layout)(block, &mut answer).into(),
+            Call::TextPlace => (self.text_place)(block, &mut answer).into(),
+            Call::LabelPlace { .. } => (self.label_place)(block, fallback, &mut answer).into(),
             Call::Floats { array, segment } => {
                 with_floats(&mut answer, |floats| (self.floats)(block, array, segment, floats))
             }
+            Call::WalkedFloats { array, segment } => with_floats(&mut answer, |floats| {
+                (self.walked_floats)(block, array, segment, floats)
+            }),
             Call::Walk { array, segment } => with_floats(&mut out, |values| {
-                with_floats(&mut answer, |times| (self.steps)(block, array, segment, values, times))
+                with_floats(&mut answer, |times| {
+                    (self.steps)(block, array, segment, values, times, &mut marks).into()
+                })
             }),
             Call::Step { array, segment, k } => with_floats(&mut answer, |point| {
-                (self.step)(block, array, segment, k, point) as u32
+                (self.step)(block, array, segment, k, point, &mut marks) as u64
             }),
-            Call::UserText => (self.user_text)(block, &mut answer) as u32,
-            Call::Label { .. } => (self.label)(block, fallback, &mut answer) as u32,
+            Call::UserText => (self.user_text)(block, &mut answer) as u64,
+            Call::Label { .. } => (self.label)(block, fallback, &mut answer) as u64,
         };
         let (block, fallback) = (block.to_vec(), fallback.clone());
-        Reply { number, block, fallback, out, answer, spoiled: vec![] }
+        Reply { number, block, fallback, out, answer, marks, spoiled: vec![] }
     }
 }
 
 /// Lends bytes as the floats that they are.
-fn with_floats(bytes: &mut [u8], ask: impl FnOnce(&mut [f64]) -> u32) -> u32 {
+fn with_floats(bytes: &mut [u8], ask: impl FnOnce(&mut [f64]) -> u64) -> u64 {
     let float = |bytes: &[u8]| f64::from_le_bytes(bytes.try_into().expect("eight bytes"));
     let mut floats: Vec<f64> = bytes.chunks(8).map(float).collect();
     let number = ask(&mut floats);

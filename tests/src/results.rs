@@ -3,9 +3,9 @@
 
 use crate::compare::{Checker, Difference};
 use crate::law::cut::CUT_MORE;
-use crate::questions::{exact_request, with_room};
 use crate::random::Random;
 use crate::request::Call;
+use crate::rooms::{exact_request, with_room, Room};
 
 /// A cut that nothing refused, or 13 alone: it is made with room for any cut of the block, and what
 /// it writes is opened.
@@ -15,7 +15,8 @@ pub fn check(
     cut: Call,
     random: &mut Random,
 ) -> Result<(), Difference> {
-    let reply = checker.ask(&with_room(random, cut, block, block.len() + CUT_MORE, 16))?;
+    let room = Room::for_cut(block.len() + CUT_MORE, 16);
+    let reply = checker.ask(&with_room(random, cut, block, room))?;
     if reply.number != 0 {
         let number = reply.number;
         return Err(Difference(format!("{cut}: refused by {number} with room for any cut")));

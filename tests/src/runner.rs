@@ -11,7 +11,12 @@ use std::time::{Duration, Instant};
 
 use crate::request::{Call, Core, Reply, Request};
 
-const SLICES: [&str; 4] = ["block", "fallback", "out", "answer"];
+const SLICES: [&str; 5] = ["block", "fallback", "out", "answer", "marks"];
+/// What the slices hold while the runner itself is tried.
+const PROBED: Lent = [&[1], &[2], &[3], &[4], &[5]];
+
+/// The bytes of the slices, in that order.
+type Lent<'a> = [&'a [u8]; SLICES.len()];
 
 /// A call that takes longer is taken for one that never ends.
 const LONGEST_CALL: Duration = Duration::from_secs(120);
@@ -52,12 +57,12 @@ impl Runner {
     pub fn probe(command: &[String]) -> Result<(), String> {
         let mut runner = Runner::start(command)?;
         for (slice, name) in SLICES.iter().enumerate() {
-            let reply = runner.exchange(&probe_numbers(slice, 0), [&[1], &[2], &[3], &[4]])?;
+            let reply = runner.exchange(&probe_numbers(slice, 0), PROBED)?;
             if reply.spoiled != [*name] {
                 return Err(format!("the runner does not see a change before {name}"));
             }
             let mut victim = Runner::start_with(command, Stdio::null())?;
-            match victim.exchange(&probe_numbers(slice, 1), [&[1], &[2], &[3], &[4]]) {
+            match victim.exchange(&probe_numbers(slice, 1), PROBED) {
                 Err(why) if why.contains("signal") => (),
                 Err(why) => return Err(why),
                 Ok(_) => return Err(format!("the byte behind {name} can be touched")),
@@ -66,14 +71,14 @@ impl Runner {
         Ok(())
     }
 
-    fn exchange(&mut self, numbers: &[u32; 6], slices: [&[u8]; 4]) -> Result<Reply, String> {
+    fn exchange(&mut self, numbers: &[u32; 6], slices: Lent) -> Result<Reply, String> {
         self.steps.fetch_add(1, Ordering::SeqCst);
         let reply = self.write(numbers, slices).and_then(|()| self.read(slices));
         self.steps.fetch_add(1, Ordering::SeqCst);
         reply.map_err(|error| self.end(error))
     }
 
-    fn write(&mut self, numbers: &[u32; 6], slices: [&[u8]; 4]) -> std::io::Result<()> {
+    fn write(&mut self, numbers: &[u32; 6], slices: Lent) -> std::io::Result<()> {
         let lengths = slices.map(|slice| slice.len() as u32);
         let head = numbers.iter().chain(&lengths).flat_map(|number| number.to_le_bytes());
         let mut bytes: Vec<u8> = head.collect();
@@ -81,8 +86,8 @@ impl Runner {
         self.input.write_all(&bytes)
     }
 
-    fn read(&mut self, slices: [&[u8]; 4]) -> std::io::Result<Reply> {
-        let mut bytes = vec![0; 8 + slices.iter().map(|slice| slice.len()).sum::<usize>()];
+    fn read(&mut self, slices: Lent) -> std::io::Result<Reply> {
+        let mut bytes = vec![0; 12 + slices.iter().map(|slice| slice.len()).sum::<usize>()];
         self.output.read_exact(&mut bytes)?;
         let mut rest = &bytes[..];
         let mut next = |length: usize| {
@@ -90,15 +95,12 @@ impl Runner {
             rest = behind;
             part.to_vec()
         };
-        let mut number = || {
-            let bytes = next(4).try_into().expect("four bytes");
-            u32::from_le_bytes(bytes)
-        };
-        let (number, lost) = (number(), number());
-        let [block, fallback, out, answer] = slices.map(|slice| next(slice.len()));
+        let number = u64::from_le_bytes(next(8).try_into().expect("eight bytes"));
+        let lost = u32::from_le_bytes(next(4).try_into().expect("four bytes"));
+        let [block, fallback, out, answer, marks] = slices.map(|slice| next(slice.len()));
         let spoiled = SLICES.into_iter().enumerate().filter(|(bit, _)| lost >> bit & 1 == 1);
         let spoiled = spoiled.map(|(_, name)| name).collect();
-        Ok(Reply { number, block, fallback, out, answer, spoiled })
+        Ok(Reply { number, block, fallback, out, answer, marks, spoiled })
     }
 
     /// Why there is no reply: how the runner ended.
@@ -130,9 +132,10 @@ impl Core for Runner {
             Call::Layout => [10, 0, 0, 0, 0, 0],
             Call::TextPlace => [11, 0, 0, 0, 0, 0],
             Call::LabelPlace { .. } => [12, 0, 0, 0, 0, 0],
+            Call::WalkedFloats { array, segment } => [13, array, segment, 0, 0, 0],
         };
-        let Request { block, fallback, out, answer, .. } = request;
-        self.exchange(&numbers, [block, fallback, out, answer])
+        let Request { block, fallback, out, answer, marks, .. } = request;
+        self.exchange(&numbers, [block, fallback, out, answer, marks])
     }
 }
 

@@ -6,6 +6,7 @@ use crate::law::descriptor::*;
 use crate::law::numbers::{read_signed, Order};
 use crate::law::rules::LAST_PLACE;
 use crate::random::Random;
+use crate::samples;
 use crate::times;
 
 #[derive(Clone, Copy, PartialEq)]
@@ -91,9 +92,9 @@ impl Shape {
         self.set_places(&mut draft, random);
         draft.set_text(TRACE_LABEL, &trace_label(random));
         draft.user_text = random.bytes(self.user_text);
-        draft.array_1 = samples(random, count as usize * self.width());
+        draft.array_1 = samples::array(random, self);
         if self.two_arrays {
-            draft.array_2 = samples(random, count as usize * self.width());
+            draft.array_2 = samples::array(random, self);
         }
         self.set_scale(&mut draft, random);
         self.set_tables(&mut draft, random);
@@ -198,16 +199,6 @@ fn trace_label(random: &mut Random) -> Vec<u8> {
         label[length..].fill(0);
     }
     label
-}
-
-/// Random samples, or those at both ends of a sample's range.
-fn samples(random: &mut Random, bytes: usize) -> Vec<u8> {
-    let mut samples = random.bytes(bytes);
-    if random.once_in(4) {
-        let ends = [0x00, 0x01, 0x7F, 0x80, 0xFF];
-        samples.iter_mut().for_each(|byte| *byte = ends[usize::from(*byte) % ends.len()]);
-    }
-    samples
 }
 
 #[cfg(test)]

@@ -13,7 +13,7 @@ use tessarquin_tests::request::{Calls, LAW};
 struct Version {
     title: &'static str,
     /// What shows it with nothing to compare with.
-    marks: &'static [&'static str],
+    flaws: &'static [&'static str],
     calls: Calls,
 }
 
@@ -28,37 +28,43 @@ mod wrong {
 
 /// A kind of case that shows a version at odds with itself.
 struct Way {
-    /// The mark of the versions that it must catch.
-    mark: &'static str,
+    /// The flaw of the versions that it must catch.
+    flaw: &'static str,
     caught_how: &'static str,
     kind: &'static str,
     run: fn(&mut Checker, &mut Random) -> Result<(), Difference>,
 }
 
-const WAYS: [Way; 4] = [
+const WAYS: [Way; 5] = [
     Way {
-        mark: "breaks demand 3",
+        flaw: "breaks demand 3",
         caught_how: "caught by demand 3 alone",
         kind: "cut of a cut",
         run: cases::cut_of_cut,
     },
     Way {
-        mark: "breaks a rule",
+        flaw: "breaks a rule",
         caught_how: "caught by opening what they cut",
         kind: "cut opened",
         run: cases::cut_opened,
     },
     Way {
-        mark: "hangs on the header",
+        flaw: "hangs on the header",
         caught_how: "caught by two headers alone",
         kind: "two headers",
         run: cases::two_headers,
     },
     Way {
-        mark: "misplaces a part",
+        flaw: "misplaces a part",
         caught_how: "caught by parts and texts alone",
         kind: "parts and texts",
         run: cases::parts_and_texts,
+    },
+    Way {
+        flaw: "misses the rail",
+        caught_how: "caught by the marks of known samples alone",
+        kind: "marks",
+        run: cases::marks_known,
     },
 ];
 
@@ -77,8 +83,8 @@ fn main() -> ExitCode {
     let list = std::env::args().any(|argument| argument == "--list");
     let mut all_caught = tell("caught", list, wrong::WRONG.iter(), first_difference);
     for way in &WAYS {
-        let marked = wrong::WRONG.iter().filter(|version| version.marks.contains(&way.mark));
-        all_caught &= tell(way.caught_how, list, marked, |calls| first_at_odds(calls, way));
+        let flawed = wrong::WRONG.iter().filter(|version| version.flaws.contains(&way.flaw));
+        all_caught &= tell(way.caught_how, list, flawed, |calls| first_at_odds(calls, way));
     }
     match all_caught {
         true => ExitCode::SUCCESS,

@@ -3,7 +3,7 @@
 
 use super::cut::{cut as cut_block, Setup};
 use super::numbers::{store, Order};
-use super::points::{sample, time, value};
+use super::points::{at_rail, mark, sample, time, value};
 use super::rules::{open as open_block, refuse, Opened, Refusal, LAST_PLACE};
 
 /// Answers g, M, arrays, COMM_ORDER, COMM_TYPE.
@@ -11,12 +11,14 @@ pub fn open(block: &[u8], answer: &mut [u8]) -> u32 {
     number(try_open(block, answer))
 }
 
-/// Answers the bits of the point's value and those of its time.
+/// Answers the bits of the point's value, those of its time, and 1 where its sample is at the rail,
+/// else 0.
 pub fn point(block: &[u8], array: u32, segment: u32, point: u32, answer: &mut [u8]) -> u32 {
     number(try_point(block, array, segment, point, answer))
 }
 
-/// Answers the bits of all values of a segment.
+/// Answers the bits of all values of a segment, and behind them how many of its samples are at the
+/// rail.
 pub fn fill(block: &[u8], array: u32, segment: u32, answer: &mut [u8]) -> u32 {
     number(try_fill(block, array, segment, answer))
 }
@@ -73,10 +75,11 @@ fn try_point(
     choose_array(&opened, array)?;
     choose_segment(&opened, segment)?;
     refuse(k >= opened.points, Refusal::Point)?;
-    room(answer, 2)?;
+    room(answer, 3)?;
     let value = value(&opened, sample(&opened, array, segment, k));
     let time = time(&opened, segment, k);
-    write(answer, &[value.to_bits(), time.to_bits()]);
+    let mark = mark(&opened, sample(&opened, array, segment, k));
+    write(answer, &[value.to_bits(), time.to_bits(), u64::from(mark)]);
     Ok(())
 }
 
@@ -85,10 +88,11 @@ fn try_fill(block: &[u8], array: u32, segment: u32, answer: &mut [u8]) -> Result
     let (array, segment) = (i64::from(array), i64::from(segment));
     choose_array(&opened, array)?;
     choose_segment(&opened, segment)?;
-    room(answer, opened.points as usize)?;
+    room(answer, opened.points as usize + 1)?;
     let value_of = |k: i64| value(&opened, sample(&opened, array, segment, k)).to_bits();
     let values: Vec<u64> = (0..opened.points).map(value_of).collect();
-    write(answer, &values);
+    let at_rail = at_rail(&opened, array, segment);
+    write(answer, &[&values[..], &[at_rail]].concat());
     Ok(())
 }
 

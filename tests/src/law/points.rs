@@ -1,4 +1,4 @@
-//! Points, in volts and seconds.
+//! Points, in volts and seconds, and the marks of their samples.
 
 use super::numbers::{read_double, read_signed};
 use super::rules::Opened;
@@ -19,6 +19,21 @@ pub fn sample_bytes<'a>(opened: &Opened<'a>, array: i64, segment: i64, k: i64) -
 pub fn value(opened: &Opened, sample: i64) -> f64 {
     let (gain, offset) = (f64::from(opened.gain), f64::from(opened.offset));
     gain * sample as f64 - offset
+}
+
+/// The mark of a sample: whether it is at the rail, the lowest or the highest number of its type.
+pub fn mark(opened: &Opened, sample: i64) -> bool {
+    let (lowest, highest) = match opened.width() {
+        1 => (-128, 127),
+        _ => (-32_768, 32_767),
+    };
+    sample == lowest || sample == highest
+}
+
+/// How many of a segment's M samples are at the rail.
+pub fn at_rail(opened: &Opened, array: i64, segment: i64) -> u64 {
+    let marked = |k: &i64| mark(opened, sample(opened, array, segment, *k));
+    (0..opened.points).filter(marked).count() as u64
 }
 
 /// i: the place of point k in the scope's trace buffer.

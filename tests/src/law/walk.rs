@@ -1,7 +1,7 @@
 //! A walk over one segment: its points one after another, then done for good.
 
 use super::calls::{choose_array, choose_segment};
-use super::points::{sample, time, value};
+use super::points::{mark, sample, time, value};
 use super::rules::{open, Opened, Refusal};
 
 pub struct Walk<'a> {
@@ -10,6 +10,13 @@ pub struct Walk<'a> {
     segment: i64,
     /// The point that the next step hands out.
     k: i64,
+}
+
+/// What a step hands out.
+pub struct Point {
+    pub value: f64,
+    pub time: f64,
+    pub mark: bool,
 }
 
 impl<'a> Walk<'a> {
@@ -22,15 +29,16 @@ impl<'a> Walk<'a> {
         Ok(Walk { opened, array, segment, k: 0 })
     }
 
-    /// The value and the time that the next step hands out; none where the walk is done.
-    pub fn point(&self) -> Option<[f64; 2]> {
+    /// The point that the next step hands out; none where the walk is done.
+    pub fn point(&self) -> Option<Point> {
         let Walk { opened, array, segment, k } = self;
         if *k == opened.points {
             return None;
         }
         let value = value(opened, sample(opened, *array, *segment, *k));
         let time = time(opened, *segment, *k);
-        Some([value, time])
+        let mark = mark(opened, sample(opened, *array, *segment, *k));
+        Some(Point { value, time, mark })
     }
 
     /// One step further; a walk that is done stays where it is.

@@ -1,0 +1,134 @@
+//! The slices lent to a call: with just enough room, with one byte or one float less, or with more.
+
+use crate::law::cut::CUT_MORE;
+use crate::law::texts;
+use crate::questions::Extent;
+use crate::random::Random;
+use crate::request::{Call, Request, LAW};
+
+/// The fill of a very long segment, its walk and a very long text are asked with too little room,
+/// and take no gigabyte.
+const MOST_ROOM: usize = 1 << 22;
+
+/// Bytes of the slices that an answer goes to.
+#[derive(Clone, Copy)]
+pub struct Room {
+    pub out: usize,
+    pub answer: usize,
+    pub marks: usize,
+}
+
+impl Room {
+    /// For a cut: its block, then c and the block's length.
+    pub fn for_cut(out: usize, answer: usize) -> Room {
+        Room { out, answer, marks: 0 }
+    }
+
+    fn for_answer(answer: usize) -> Room {
+        Room { out: 0, answer, marks: 0 }
+    }
+}
+
+/// A request with room that is often just enough, sometimes one byte or one float short.
+pub fn request<'a>(random: &mut Random, call: Call, block: &'a [u8]) -> Request<'a> {
+    let need = need(call, block);
+    let unit = if call.takes_floats() { 8 } else { 1 };
+    // A cut is hardly longer than its block.
+    let most = if matches!(call, Call::Cut { .. }) { usize::MAX } else { MOST_ROOM };
+    let mut lent = |need: usize, unit: usize| (unit * near(random, need / unit)).min(most);
+    let out = if need.out == 0 { 0 } else { lent(need.out, unit) };
+    let answer = lent(need.answer, unit);
+    let marks = if need.marks == 0 { 0 } else { lent(need.marks, 1) };
+    with_room(random, call, block, Room { out, answer, marks })
+}
+
+/// A request with exactly the room that the answer takes.
+pub fn exact_request<'a>(random: &mut Random, call: Call, block: &'a [u8]) -> Request<'a> {
+    let need = need(call, block);
+    with_room(random, call, block, need)
+}
+
+/// A request whose outputs hold random bytes.
+pub fn with_room<'a>(random: &mut Random, call: Call, block: &'a [u8], room: Room) -> Request<'a> {
+    let fallback = match call {
+        Call::Label { fallback } | Call::LabelPlace { fallback } => random.bytes(fallback),
+        _ => vec![],
+    };
+    let mut lent = |room: usize| match call.takes_floats() {
+        true => without_nans(random.bytes(room)),
+        false => random.bytes(room),
+    };
+    let (out, answer) = (lent(room.out), lent(room.answer));
+    let marks = random.bytes(room.marks);
+    Request { call, block, fallback, out, answer, marks }
+}
+
+/// Bytes of floats, none of them a NaN: a contract says that a float is as it was, and the logic has
+/// one NaN, so it does not say which one a NaN is.
+fn without_nans(mut bytes: Vec<u8>) -> Vec<u8> {
+    for float in bytes.chunks_mut(8) {
+        // An exponent of all ones, half in each of the two high bytes, loses one of them.
+        if float[7] & 0x7F == 0x7F && float[6] & 0xF0 == 0xF0 {
+            float[6] &= 0xEF;
+        }
+    }
+    bytes
+}
+
+/// The room that an answer takes; for a refused call, some answer.
+fn need(call: Call, block: &[u8]) -> Room {
+    let points = || Extent::of(block).points as usize;
+    match call {
+        Call::Open => Room::for_answer(40),
+        Call::Point { .. } => Room::for_answer(24),
+        Call::Fill { .. } => Room::for_answer(8 * points() + 8),
+        Call::Cut { .. } => {
+            let room = Room::for_cut(block.len() + CUT_MORE, 16);
+            let reply = LAW.reply(&with_zeros(call, block, room));
+            Room::for_cut(if reply.number == 0 { reply.written().len() } else { 400 }, 16)
+        }
+        Call::Layout => Room::for_answer(200),
+        Call::TextPlace => Room::for_answer(16),
+        Call::LabelPlace { .. } => Room::for_answer(24),
+        Call::Floats { .. } | Call::WalkedFloats { .. } => Room::for_answer(8 * points()),
+        Call::Walk { .. } => {
+            let points = points();
+            Room { out: 8 * points, answer: 8 * points, marks: points }
+        }
+        Call::Step { .. } => Room { out: 0, answer: 16, marks: 1 },
+        Call::UserText => Room::for_answer(texts::user_text(block).len()),
+        Call::Label { fallback } => Room::for_answer(texts::label(block, &vec![0; fallback]).len()),
+    }
+}
+
+/// A request without a fallback whose outputs hold zeros.
+fn with_zeros(call: Call, block: &[u8], room: Room) -> Request<'_> {
+    let [out, answer, marks] = [room.out, room.answer, room.marks].map(|room| vec![0; room]);
+    Request { call, block, fallback: vec![], out, answer, marks }
+}
+
+/// So many bytes or floats, or as many as are too few or more.
+fn near(random: &mut Random, need: usize) -> usize {
+    match random.below(12) {
+        0 | 1 => need.saturating_sub(1),
+        2 => random.below(need.max(1)),
+        3 => random.pick(&[0, 1, 8, need / 2, need.saturating_sub(8)]),
+        4..=6 => need + 1 + random.below(30),
+        _ => need,
+    }
+}
+
+#[cfg(test)]
+mod tests {
+    use super::*;
+
+    #[test]
+    fn no_nan_is_lent() {
+        let any = Random::new(9, 0).bytes(800_000);
+        let least = f64::from_bits(0x7FF0_0000_0000_0001);
+        let nans = [f64::NAN, -f64::NAN, least, -least].map(f64::to_le_bytes).concat();
+        for float in without_nans([any, nans].concat()).chunks(8) {
+            assert!(!f64::from_le_bytes(float.try_into().expect("eight bytes")).is_nan());
+        }
+    }
+}
