@@ -1,4 +1,4 @@
--- Marks of samples: two signed numbers are the same where their bits are (`bits-equal`), and a count of marks goes on behind what is counted
+-- Marks of samples: a sample is at the rail by its bits (`rail-bits`), and a count of marks goes on behind what is counted
 -- (`marks-next`, `marks-more`, `marks-one`).
 use mathlib.Core.Path.{_≡_, refl, sym, ap, ap₂, subst, _∙_}
 use mathlib.Core.Bool.{Bool, true, false, _||_, false≢true}
@@ -32,7 +32,7 @@ equal-same (pos m) (negsuc n) e = absurd (false≢true e)
 equal-same (negsuc m) (pos n) e = absurd (false≢true e)
 equal-same (negsuc m) (negsuc n) e = ap negsuc (eqb-true m n e)
 
-pub bits-equal : (w : Width) (x y : ℤ) → SFits w x → SFits w y → eqb (ofZ w x) (ofZ w y) ≡ equal x y
+bits-equal : (w : Width) (x y : ℤ) → SFits w x → SFits w y → eqb (ofZ w x) (ofZ w y) ≡ equal x y
 bits-equal w x y f g = go (eqb (ofZ w x) (ofZ w y)) refl (equal x y) refl
   where
     go : (a : Bool) → eqb (ofZ w x) (ofZ w y) ≡ a → (b : Bool) → equal x y ≡ b → a ≡ b
@@ -43,10 +43,12 @@ bits-equal w x y f g = go (eqb (ofZ w x) (ofZ w y)) refl (equal x y) refl
         sym (subst (λ (z : ℤ). equal x z ≡ true) e (equal-refl x)) ∙ q
     go false p true q = absurd (eqb-false (ofZ w x) (ofZ w y) p (ap (ofZ w) (equal-same x y q)))
 
--- a sample is one of the two numbers of its type, each as the code has it
-pub rail-either : (size : ℕ) (z x low high : ℤ) (r : Bool) → x ≡ z → low ≡ lowest size → high ≡ highest size → r ≡ equal x low || equal x high → r ≡ atRail size z
+-- a sample's bits are those of one of the two numbers of its type
+pub rail-bits : (w : Width) (size : ℕ) (z low high : ℤ) → SFits w z → SFits w low → SFits w high → low ≡ lowest size → high ≡ highest size
+    → eqb (ofZ w z) (ofZ w low) || eqb (ofZ w z) (ofZ w high) ≡ atRail size z
 unfolding atRail
-rail-either size z x low high r e f g h = h ∙ (λ i. equal (e i) (f i) || equal (e i) (g i))
+rail-bits w size z low high f g h e d =
+    ap₂ {C = Bool} (λ x y. x || y) (bits-equal w z low f g) (bits-equal w z high f h) ∙ (λ i. equal z (e i) || equal z (d i))
 
 -- ---- counts
 

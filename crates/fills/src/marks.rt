@@ -1,9 +1,7 @@
 // Samples at the rail, the lowest or the highest number of their type, and how many there are.
 ghost use mathlib.Core.Path.{_≡_};
-ghost use mathlib.Core.Bool.{_||_};
 ghost use Prim.Native.Nat.{_≤_};
 ghost use lib.ListN.{length};
-ghost use Rattle.rules.specs.Numbers.{lowest, highest, equal};
 ghost use Rattle.rules.specs.Points.{atRail, markNumber, marksIn};
 
 // How many samples were filled, and how many of them stand at the rail.
@@ -17,21 +15,22 @@ pub fn at_rail(sample: i16, size: usize) -> bool
     requires { ⌜ (1 ≤ size) × (size ≤ 2) ⌝ }
     ensures { λ r. ⌜ r ≡ atRail size sample ⌝ }
 {
-    is_either(sample, lowest(size), highest(size))
+    if size == 1 {
+        return (sample == -128) | (sample == 127);
+    }
+    (sample == -32768) | (sample == 32767)
 }
 
-// How many of sixty-four samples of `size` bytes stand at the rail.
+// How many of sixty-four samples of `size` bytes stand at the rail. The size is tested once, and the loop compiles to vector compares.
 pub(crate) fn count_marks(samples: &[i16; 64], size: usize) -> usize
     requires { ⌜ (1 ≤ size) × (size ≤ 2) ⌝ }
     requires { ⌜ length (now samples) ≡ 64 ⌝ }
     ensures { λ r. ⌜ r ≡ marksIn size (now (samples .entry)) ⌝ }
 {
-    let low = lowest(size);
-    let high = highest(size);
     let mut n: u16 = 0;
     let mut k = 0;
     while k < 64 {
-        n = n + mark_number(is_either(samples[k], low, high));
+        n = n + mark_number(at_rail(samples[k], size));
         k += 1;
     }
     n as usize
@@ -50,27 +49,4 @@ pub fn mark_number(mark: bool) -> u16
     ensures { λ r. ⌜ r ≡ markNumber mark ⌝ }
 {
     if mark { 1 } else { 0 }
-}
-
-// Whether x is one of two numbers.
-fn is_either(x: i16, low: i16, high: i16) -> bool
-    ensures { λ r. ⌜ r ≡ equal x low || equal x high ⌝ }
-{
-    (x == low) | (x == high)
-}
-
-// The lowest number of `size` bytes.
-fn lowest(size: usize) -> i16
-    requires { ⌜ (1 ≤ size) × (size ≤ 2) ⌝ }
-    ensures { λ r. ⌜ r ≡ lowest size ⌝ }
-{
-    if size == 1 { -128 } else { -32768 }
-}
-
-// The highest.
-fn highest(size: usize) -> i16
-    requires { ⌜ (1 ≤ size) × (size ≤ 2) ⌝ }
-    ensures { λ r. ⌜ r ≡ highest size ⌝ }
-{
-    if size == 1 { 127 } else { 32767 }
 }

@@ -1,28 +1,25 @@
--- The two numbers of the sample's type.
-use mathlib.Core.Path.{_∙_}
+-- The two numbers of a byte, or of a word.
+use mathlib.Core.Path.{_≡_, sym, ap}
+use native.Mathlib.Omega.{arith}
+use lib.Dec.{lit<}
+use lib.IntN.{pos, negsuc}
 use mir.Syntax.{w16}
-use mir.ValLaws.{toZ-ofZ}
-use borrow.Author.Needs.{needs}
-use Rattle.fills.proofs.Marking.{rail-either}
+use Rattle.rules.specs.Numbers.{lowest, highest}
+use Rattle.fills.proofs.Marking.{rail-bits}
 use Rattle.fills.proofs.marks.at_rail.Statement.{statement}
 use Rattle.fills.proofs.marks.at_rail.Tie as tie
 
-lowest-requires : tie.Need-lowest-requires
-lowest-requires c κs = search needs
-
-highest-requires : tie.Need-highest-requires
-highest-requires c κs = search needs
-
-is-either-requires : tie.Need-is-either-requires
-is-either-requires c κs = search needs
-
 returns : tie.Need-returns
 returns c =
-    let s = c .before .before .before in
-    let low = c .before .before .lowest in
-    let high = c .before .highest in
-    rail-either (s .args .size) (s .args .sample) _ _ _ (c .is-either .result) (toZ-ofZ w16 (s .args .sample) (s .fits .sample))
-    (toZ-ofZ w16 (low .result) (record { sfits = low .ok }) ∙ low .ensures) (toZ-ofZ w16 (high .result) (record { sfits = high .ok }) ∙ high .ensures) (c .is-either .ensures)
+    let s = c .before in
+    let e : s .args .size ≡ 1 = omega (arith, c .if1 .taken) in
+    rail-bits w16 (s .args .size) (s .args .sample) (negsuc 127) (pos 127) (s .fits .sample) (record { sfits = lit< tt }) (record { sfits = lit< tt }) (sym (ap lowest e)) (sym (ap highest e))
+
+returns-2 : tie.Need-returns-2
+returns-2 c =
+    let s = c .before in
+    let e : s .args .size ≡ 2 = omega (arith, c .if1 .left, s .pre) in
+    rail-bits w16 (s .args .size) (s .args .sample) (negsuc 32767) (pos 32767) (s .fits .sample) (record { sfits = lit< tt }) (record { sfits = lit< tt }) (sym (ap lowest e)) (sym (ap highest e))
 
 pub at-rail-spec : {M : Type 1} → statement M
-at-rail-spec = tie.close (tie.spec lowest-requires highest-requires is-either-requires returns)
+at-rail-spec = tie.close (tie.spec returns returns-2)

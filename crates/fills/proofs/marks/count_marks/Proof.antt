@@ -10,40 +10,34 @@ use mir.ValLaws.{toZ-ofZ}
 use borrow.Author.Needs.{needs}
 use Rattle.rules.specs.Points.{atRail, markNumber, marksIn}
 use Rattle.rules.proofs.Marks.{mark-le}
-use Rattle.fills.proofs.Marking.{rail-either, marks-next}
+use Rattle.fills.proofs.Marking.{marks-next}
 use Rattle.fills.proofs.marks.count_marks.Statement.{statement}
 use Rattle.fills.proofs.marks.count_marks.Tie as tie
 
 abbrev Inv-loop : tie.InvT-loop
-Inv-loop samples size low high n₀ k₀ n k = (k ≤ 64) × (n ≤ k) × (n ≡ marksIn size (take k samples))
+Inv-loop samples size n₀ k₀ n k = (k ≤ 64) × (n ≤ k) × (n ≡ marksIn size (take k samples))
 
 abbrev μ-loop : tie.MeasureT-loop
-μ-loop samples size low high n₀ k₀ n k = 64 - k
-
-lowest-requires : tie.Need-lowest-requires Inv-loop μ-loop
-lowest-requires c κs = search needs
-
-highest-requires : tie.Need-highest-requires Inv-loop μ-loop
-highest-requires c κs = search needs
+μ-loop samples size n₀ k₀ n k = 64 - k
 
 loop-holds : tie.Need-loop-holds Inv-loop μ-loop
 unfolding marksIn
 loop-holds c = (omega arith, omega arith, refl)
 
-mul-is-either : tie.Need-mul-is-either Inv-loop μ-loop
-mul-is-either c = search needs
+mul-at-rail : tie.Need-mul-at-rail Inv-loop μ-loop
+mul-at-rail c = search needs
 
-element-copy-out-is-either : tie.Need-element-copy-out-is-either Inv-loop μ-loop
-element-copy-out-is-either c = search needs
+element-copy-out-at-rail : tie.Need-element-copy-out-at-rail Inv-loop μ-loop
+element-copy-out-at-rail c = search needs
 
-is-either-requires : tie.Need-is-either-requires Inv-loop μ-loop
-is-either-requires c κs = search needs
+at-rail-requires : tie.Need-at-rail-requires Inv-loop μ-loop
+at-rail-requires c κs = search needs
 
 mark-number-requires : tie.Need-mark-number-requires Inv-loop μ-loop
 mark-number-requires c κs = search needs
 
 add-n : tie.Need-add-n Inv-loop μ-loop
-add-n c = omega (arith, c .mark-number .ensures, mark-le (c .before .is-either .result), c .before .before .before .before .loop .inv .1)
+add-n c = omega (arith, c .mark-number .ensures, mark-le (c .before .at-rail .result), c .before .before .before .before .loop .inv .1)
 
 add-k : tie.Need-add-k Inv-loop μ-loop
 add-k c = search needs
@@ -53,16 +47,12 @@ loop-less c = search needs
 
 loop-again : tie.Need-loop-again Inv-loop μ-loop
 loop-again c =
-    let s = c .before .before .before .before .before .before .before in
+    let s = c .before .before .before .before .before in
     let a = s .args in
     let l = c .before .before .before .before .loop in
     let z : ℤ = getD (a .samples .now) (l .k) (pos 0) in
-    let e = c .before .is-either in
-    let low = c .before .before .before .before .before .before .lowest in
-    let high = c .before .before .before .before .before .highest in
-    let r : e .result ≡ atRail (a .size) z =
-    rail-either (a .size) z _ _ _ (e .result) (toZ-ofZ w16 z (record { sfits = c .before .before .is-either-arg .given }))
-    (toZ-ofZ w16 (low .result) (record { sfits = low .ok }) ∙ low .ensures) (toZ-ofZ w16 (high .result) (record { sfits = high .ok }) ∙ high .ensures) (e .ensures) in (
+    let e = c .before .at-rail in
+    let r : e .result ≡ atRail (a .size) z = e .ensures ∙ ap (atRail (a .size)) (toZ-ofZ w16 z (record { sfits = c .before .before .at-rail-arg .given })) in (
       omega arith,
       omega (arith, c .mark-number .ensures, mark-le (e .result), l .inv .1),
       ap₂ {C = ℕ} (λ x y. x + y) (l .inv .2) (c .mark-number .ensures ∙ ap markNumber r) ∙ marks-next (a .size) (a .samples .now) (l .k) (omega (arith, s .pre .1)),
@@ -73,9 +63,9 @@ cast-result c = search needs
 
 returns : tie.Need-returns Inv-loop μ-loop
 returns c =
-    let a = c .before .before .before .before .args in
+    let a = c .before .before .args in
     let l = c .before .loop in
-    let e : l .k ≡ length (a .samples .now) = omega (arith, c .before .before .before .before .pre .1) in
+    let e : l .k ≡ length (a .samples .now) = omega (arith, c .before .before .pre .1) in
     l .inv .2 ∙ ap (marksIn (a .size)) (ap (λ (k : ℕ). take k (a .samples .now)) e ∙ take-length (a .samples .now))
 
 pub count-marks-spec : {M : Type 1} → statement M
@@ -84,12 +74,10 @@ count-marks-spec =
     (tie.spec
     Inv-loop
     μ-loop
-    lowest-requires
-    highest-requires
     loop-holds
-    mul-is-either
-    element-copy-out-is-either
-    is-either-requires
+    mul-at-rail
+    element-copy-out-at-rail
+    at-rail-requires
     mark-number-requires
     add-n
     add-k
