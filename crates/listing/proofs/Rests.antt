@@ -144,8 +144,9 @@ pub handed-line : (s : List ℕ) (spot : Spot) (v t : Float) (m : Bool) → Hand
     → line (decimal (spot .segment) ∷ decimal (spot .place .k) ∷ hex x ∷ hex y ∷ decimal (markNumber m) ∷ []) ≡ pointLine (opened s) (spot .segment) (spot .place .k)
 unfolding pointLine
 handed-line s spot v t m h x y p q =
-    ap₂ {C = List ℕ} (λ x y. line (decimal (spot .segment) ∷ decimal (spot .place .k) ∷ hex x ∷ hex y ∷ decimal (markNumber m) ∷ [])) (p ∙ ap (toBits binary64) (h .value-is)) (q ∙ ap (toBits binary64) (h .time-is))
-    ∙ ap (λ (b : Bool). line (decimal (spot .segment) ∷ decimal (spot .place .k) ∷ hex (toBits binary64 (value (opened s) 1 (spot .segment) (spot .place .k))) ∷ hex (toBits binary64 (time (opened s) (spot .segment) (spot .place .k))) ∷ decimal (markNumber b) ∷ [])) (h .mark-is)
+    let value-bits = p ∙ ap (toBits binary64) (h .value-is) in
+    let time-bits = q ∙ ap (toBits binary64) (h .time-is) in
+    λ i. line (decimal (spot .segment) ∷ decimal (spot .place .k) ∷ hex (value-bits i) ∷ hex (time-bits i) ∷ decimal (markNumber (h .mark-is i)) ∷ [])
 
 -- a page leaves less
 pub shorter : (s : List ℕ) (from : Spot) (out : List ℕ) (r : Page) → Paged s from out r → from .place .refusal ≡ 0 → length (rest s (r .spot)) < length (rest s from)
