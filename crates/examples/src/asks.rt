@@ -71,6 +71,30 @@ pub fn fills(name: &[u8], shape: u32, array: u32, segment: u32, room: usize) {
     print(f.refusal, name);
 }
 
+// Asks for the mark of point k of a block with these samples.
+pub fn marks(name: &[u8], samples: &[u8], kind: u16, order: u16, k: u32)
+    requires { ⌜ length (now samples) ≤ 12 ⌝ }
+{
+    let mut block = [0u8; 512];
+    blocks::make_of(samples, kind, order, &mut block);
+    let slice = 11 + 346 + samples.len();
+    let p = points::point(first(&block, slice), 1, 1, k);
+    let number = if p.mark { 1 } else { 0 };
+    print_in(order, number, name);
+}
+
+// Fills the values of a block with these samples, and asks how many of them have the mark.
+pub fn counts(name: &[u8], samples: &[u8], kind: u16, order: u16)
+    requires { ⌜ length (now samples) ≤ 12 ⌝ }
+{
+    let mut block = [0u8; 512];
+    blocks::make_of(samples, kind, order, &mut block);
+    let slice = 11 + 346 + samples.len();
+    let mut out = [0.0f64; 6];
+    let f = points::fill(first(&block, slice), 1, 1, &mut out);
+    print_in(order, f.marks, name);
+}
+
 // Cuts to so many bytes.
 pub fn cuts(name: &[u8], shape: u32, setup: Setup, order: u32, room: usize) {
     let mut block = [0u8; 512];
@@ -133,12 +157,26 @@ fn within(n: usize, most: usize) -> usize
     if n < most { n } else { most }
 }
 
+// The number in two digits, the case, and the order that it is in.
+fn print_in(order: u16, number: u32, name: &[u8]) {
+    if order == 0 {
+        print_to(b", HIFIRST\n", number, name);
+    } else {
+        print_to(b", LOFIRST\n", number, name);
+    }
+}
+
 // The number in two digits, and the case.
 fn print(number: u32, name: &[u8]) {
+    print_to(b"\n", number, name);
+}
+
+// The number in two digits, the case, and how the line ends.
+fn print_to(end: &[u8], number: u32, name: &[u8]) {
     let mut word = [b' '; 3];
     word[0] = 48 + (number / 10 % 10) as u8;
     word[1] = 48 + (number % 10) as u8;
     io::write_all(STDOUT_FILENO, &word);
     io::write_all(STDOUT_FILENO, name);
-    io::write_all(STDOUT_FILENO, b"\n");
+    io::write_all(STDOUT_FILENO, end);
 }

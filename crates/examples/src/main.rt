@@ -1,11 +1,13 @@
-// Runs the lines of "Checked examples" that no star marks and the boundaries of each refusal, and opens what cuts write: prints the number of each
-// case and the case in words.
+// Runs the lines of "Checked examples" that have no star and the boundaries of each refusal, opens what cuts write, and asks for the marks of
+// samples at the rail and beside it: prints the number of each case and the case in words.
 mod asks;
 mod blocks;
 mod choices;
 mod judged;
+mod marks;
 
 fn main() {
     judged::all();
     choices::all();
+    marks::all();
 }

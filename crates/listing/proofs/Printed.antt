@@ -11,7 +11,7 @@ use Rattle.rules.specs.Rules.{opened}
 use Rattle.listing.specs.declared.pages.Spot.{Spot}
 use Rattle.listing.specs.declared.pages.Page.{Page}
 use Rattle.listing.specs.Listing.{listing}
-use Rattle.listing.specs.Pages.{Wrote, front, Stands, linesFrom, restBy, rest, Paged}
+use Rattle.listing.specs.Pages.{Wrote, lineRoom, front, Stands, linesFrom, restBy, rest, Paged}
 use Rattle.listing.specs.Outputs.{Next, Printed}
 use Rattle.listing.proofs.Texts.{taken}
 use Rattle.listing.proofs.Rests.{rest-most}
@@ -22,7 +22,7 @@ pub record Before (s : List ℕ) (spot : Spot) (sent : ℕ) : Type 0 where
   pub some : length (front s) ≤ sent
   pub within : sent ≤ length (listing s)
   pub left : drop sent (listing s) ≡ rest s spot
-  pub small : length (listing s) ≤ 56 + 56 * 2147483648
+  pub small : length (listing s) ≤ lineRoom + lineRoom * 2147483648
 
 -- bytes that what is left starts with come next; and then what is left behind them is left
 module _ (s bs : List ℕ) (sent : ℕ) (to : Spot) (w : sent ≤ length (listing s)) (e : drop sent (listing s) ≡ bs ++ rest s to) where
@@ -36,7 +36,7 @@ module _ (s bs : List ℕ) (sent : ℕ) (to : Spot) (w : sent ≤ length (listin
   leaves = sym (drop-drop (length bs) sent (listing s)) ∙ ap (drop (length bs)) e ∙ drop-append-seam bs (rest s to)
 
 -- first what `put_front` wrote, up to the spot that `begin` answers
-pub first-next : (s : List ℕ) (b : Bytes s) (sent : ℕ) (to : Spot) {l l' : List ℕ} {e : ℕ} → sent ≡ 0 → Wrote l 0 (front s) l' e → e ≤ 56 → Stands s to → listing s ≡ front s ++ rest s to
+pub first-next : (s : List ℕ) (b : Bytes s) (sent : ℕ) (to : Spot) {l l' : List ℕ} {e : ℕ} → sent ≡ 0 → Wrote l 0 (front s) l' e → e ≤ lineRoom → Stands s to → listing s ≡ front s ++ rest s to
     → Next s sent (take e l') × Before s to (sent + length (take e l'))
 first-next s b sent to {l} {l'} {e} z w few t h = (
   comes s (take e l') sent to (omega arith) left,

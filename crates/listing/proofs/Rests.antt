@@ -15,7 +15,7 @@ use borrow.Author.Tests.{ltb-true, ltb-false, lt-ltb, le-ltb}
 use Rattle.rules.specs.Numbers.{Bytes, upFrom}
 use Rattle.rules.specs.Wave.{Wave, segments, points}
 use Rattle.rules.specs.Rules.{refusal, opened}
-use Rattle.rules.specs.Points.{value, time, whole, pointRefusal, walkRefusal}
+use Rattle.rules.specs.Points.{value, time, mark, markNumber, whole, pointRefusal, walkRefusal}
 use Rattle.rules.proofs.Opened.{shape-opened, good-opened}
 use Rattle.rules.proofs.Asked.{Asked, point-says, says-point, point-near}
 use Rattle.block.specs.declared.Opened.{Opened}
@@ -28,10 +28,10 @@ use Rattle.points.specs.Walks.{acceptedPlace, placeOf, movedTo, afterOf, stepAt
 use Rattle.points.proofs.Refusals.{walk-points, walk-none, walk-accepts}
 use Rattle.points.proofs.Walking.{step-point, place-number, begins}
 use Rattle.listing.specs.Listing.{decimal, hex, line, firstLine, refusedLine, tooLong, pointLine, segmentLines, listingBy, listing}
-use Rattle.listing.specs.Pages.{frontBy, front, spotAt, Stands, linesFrom, restBy, rest, Paged}
+use Rattle.listing.specs.Pages.{lineRoom, frontBy, front, spotAt, Stands, linesFrom, restBy, rest, Paged}
 use Rattle.listing.specs.declared.pages.Spot.{Spot}
 use Rattle.listing.specs.declared.pages.Page.{Page}
-use Rattle.listing.proofs.Texts.{length-spelled, places-few}
+use Rattle.listing.proofs.Texts.{length-spelled, places-few, places-mark}
 
 -- ---- the first line
 
@@ -100,21 +100,21 @@ each-most f c i zero h = omega arith
 each-most f c i (suc m) h =
     omega (arith, length-append (f i) (flatten (map f (upFrom (suc i) m))), h i (omega arith), each-most f c (suc i) m (λ j l. h j (omega arith)))
 
-point-most : (w : Wave) (n k : ℕ) → n < 2 ^ 32 → k < 2 ^ 32 → length (pointLine w n k) ≤ 56
+point-most : (w : Wave) (n k : ℕ) → n < 2 ^ 32 → k < 2 ^ 32 → length (pointLine w n k) ≤ lineRoom
 unfolding pointLine
-point-most w n k p q = simp (length-append, length-spelled) (omega (arith, places-few n p, places-few k q))
+point-most w n k p q = simp (length-append, length-spelled) (omega (arith, places-few n p, places-few k q, places-mark (mark w 1 n k)))
 
-lines-most : (w : Wave) (n k : ℕ) → 1 ≤ n → n ≤ segments (w .head) → k < points (w .head) → segments (w .head) * points (w .head) < 2147483648 → length (linesFrom w n k) ≤ 56 * 2147483648
+lines-most : (w : Wave) (n k : ℕ) → 1 ≤ n → n ≤ segments (w .head) → k < points (w .head) → segments (w .head) * points (w .head) < 2147483648 → length (linesFrom w n k) ≤ lineRoom * 2147483648
 lines-most w n k p q h small =
     let g : ℕ = segments (w .head) in
     let M : ℕ = points (w .head) in
     let gs : g * 1 ≤ g * M = mul-le-mul-left g (omega arith) in
     let Ms : 1 * M ≤ g * M = mul-le-mul-right M (omega arith) in
-    let this : length (segmentLines w n k) ≤ (M - k) * 56 = each-most (pointLine w n) 56 k (M - k) (λ j l. point-most w n j (omega arith) (omega arith)) in
-    let each : (m : ℕ) → m < suc n + (g - n) → length (segmentLines w m 0) ≤ M * 56 = λ m l. omega (arith, each-most (pointLine w m) 56 0 (M - 0) (λ j i. point-most w m j (omega arith) (omega arith))) in
-    let those : length (later w n k) ≤ (g - n) * (M * 56) = each-most (λ m. segmentLines w m 0) (M * 56) (suc n) (g - n) each in
-    let fit : suc (g - n) * (M * 56) ≤ g * (M * 56) = mul-le-mul-right (M * 56) (omega arith) in
-    omega (arith, length-append (segmentLines w n k) (later w n k), mul-assoc g M 56)
+    let this : length (segmentLines w n k) ≤ (M - k) * lineRoom = each-most (pointLine w n) lineRoom k (M - k) (λ j l. point-most w n j (omega arith) (omega arith)) in
+    let each : (m : ℕ) → m < suc n + (g - n) → length (segmentLines w m 0) ≤ M * lineRoom = λ m l. omega (arith, each-most (pointLine w m) lineRoom 0 (M - 0) (λ j i. point-most w m j (omega arith) (omega arith))) in
+    let those : length (later w n k) ≤ (g - n) * (M * lineRoom) = each-most (λ m. segmentLines w m 0) (M * lineRoom) (suc n) (g - n) each in
+    let fit : suc (g - n) * (M * lineRoom) ≤ g * (M * lineRoom) = mul-le-mul-right (M * lineRoom) (omega arith) in
+    omega (arith, length-append (segmentLines w n k) (later w n k), mul-assoc g M lineRoom)
 
 -- a whole number of units is no NaN
 clean : (L : ℕ) (x : Float) → T (whole L x) → T (not (isNan x))
@@ -125,25 +125,28 @@ clean L (fin s m e) h = tt
 
 -- ---- what a step hands out
 
-differ : (r : Step) (v t : Float) → r ≡ Point v t → r ≡ Done → ⊥
-differ r v t p q = let z : _≡_ {A = ℕ} 0 1 = cc in omega arith
+differ : (r : Step) (v t : Float) (m : Bool) → r ≡ Point v t m → r ≡ Done → ⊥
+differ r v t m p q = let z : _≡_ {A = ℕ} 0 1 = cc in omega arith
 
-alike : (r : Step) (x y v t : Float) → r ≡ Point x y → r ≡ Point v t → (x ≡ v) × (y ≡ t)
-alike r x y v t p q = ((cc), (cc))
+alike : (r : Step) (x y v t : Float) (b m : Bool) → r ≡ Point x y b → r ≡ Point v t m → (x ≡ v) × (y ≡ t) × (b ≡ m)
+alike r x y v t b m p q = ((cc), (cc), (cc))
 
--- v and t are the value and the time of the point at a spot, and no NaN
-pub record Handed (s : List ℕ) (spot : Spot) (v t : Float) : Type 0 where
+-- v, t and m are the value, the time and the mark of the point at a spot; v and t are no NaN
+pub record Handed (s : List ℕ) (spot : Spot) (v t : Float) (m : Bool) : Type 0 where
   pub value-is : v ≡ value (opened s) 1 (spot .segment) (spot .place .k)
   pub time-is : t ≡ time (opened s) (spot .segment) (spot .place .k)
+  pub mark-is : m ≡ mark (opened s) 1 (spot .segment) (spot .place .k)
   pub value-clean : T (not (isNan v))
   pub time-clean : T (not (isNan t))
 
--- the point's line, of their bits
-pub handed-line : (s : List ℕ) (spot : Spot) (v t : Float) → Handed s spot v t → (x y : ℕ) → x ≡ toBits binary64 v → y ≡ toBits binary64 t
-    → line (decimal (spot .segment) ∷ decimal (spot .place .k) ∷ hex x ∷ hex y ∷ []) ≡ pointLine (opened s) (spot .segment) (spot .place .k)
+-- the point's line, of the bits of the two and of the mark
+pub handed-line : (s : List ℕ) (spot : Spot) (v t : Float) (m : Bool) → Handed s spot v t m → (x y : ℕ) → x ≡ toBits binary64 v → y ≡ toBits binary64 t
+    → line (decimal (spot .segment) ∷ decimal (spot .place .k) ∷ hex x ∷ hex y ∷ decimal (markNumber m) ∷ []) ≡ pointLine (opened s) (spot .segment) (spot .place .k)
 unfolding pointLine
-handed-line s spot v t h x y p q =
-    ap₂ {C = List ℕ} (λ x y. line (decimal (spot .segment) ∷ decimal (spot .place .k) ∷ hex x ∷ hex y ∷ [])) (p ∙ ap (toBits binary64) (h .value-is)) (q ∙ ap (toBits binary64) (h .time-is))
+handed-line s spot v t m h x y p q =
+    let value-bits = p ∙ ap (toBits binary64) (h .value-is) in
+    let time-bits = q ∙ ap (toBits binary64) (h .time-is) in
+    λ i. line (decimal (spot .segment) ∷ decimal (spot .place .k) ∷ hex (value-bits i) ∷ hex (time-bits i) ∷ decimal (markNumber (h .mark-is i)) ∷ [])
 
 -- a page leaves less
 pub shorter : (s : List ℕ) (from : Spot) (out : List ℕ) (r : Page) → Paged s from out r → from .place .refusal ≡ 0 → length (rest s (r .spot)) < length (rest s from)
@@ -207,20 +210,21 @@ module _ (s : List ℕ) (b : Bytes s) where
     answers : pointRefusal s 1 n k ≡ 0
     answers = walk-points s 1 n walks k below
 
-    step-is : stepAt s (spot .place) ≡ Point (value (opened s) 1 n k) (time (opened s) n k)
+    step-is : stepAt s (spot .place) ≡ Point (value (opened s) 1 n k) (time (opened s) n k) (mark (opened s) 1 n k)
     step-is = ap (stepAt s) is ∙ step-point s b 1 n k answers below
 
     -- the step there is not done, and hands out its point's numbers
     pub step-never : (r : Step) → r ≡ stepAt s (spot .place) → r ≡ Done → ⊥
-    step-never r e d = differ r (value (opened s) 1 n k) (time (opened s) n k) (e ∙ step-is) d
+    step-never r e d = differ r (value (opened s) 1 n k) (time (opened s) n k) (mark (opened s) 1 n k) (e ∙ step-is) d
 
-    pub step-handed : (r : Step) (v t : Float) → r ≡ stepAt s (spot .place) → r ≡ Point v t → Handed s spot v t
-    step-handed r v t e p =
-        let q = alike r v t (value (opened s) 1 n k) (time (opened s) n k) p (e ∙ step-is) in
+    pub step-handed : (r : Step) (v t : Float) (m : Bool) → r ≡ stepAt s (spot .place) → r ≡ Point v t m → Handed s spot v t m
+    step-handed r v t m e p =
+        let q = alike r v t (value (opened s) 1 n k) (time (opened s) n k) m (mark (opened s) 1 n k) p (e ∙ step-is) in
         let near = point-near s b 1 n k answers in
         record {
           value-is = q .0;
           time-is = q .1;
+          mark-is = q .2;
           value-clean = subst (λ (x : Float). T (not (isNan x))) (sym (q .0)) (clean 149 (value (opened s) 1 n k) (near .value-near .is-whole));
           time-clean = subst (λ (x : Float). T (not (isNan x))) (sym (q .1)) (clean 1074 (time (opened s) n k) (near .time-near .is-whole));
         }
@@ -267,11 +271,11 @@ module _ (s : List ℕ) (b : Bytes s) where
           go l false f h = lines-end (opened s) n (suc k) l (h refl) ∙ sym (rest-none (n + 1) (λ e. omega (arith, h refl, asked (n + 1) e .segment)))
 
   -- what is left at a spot can be counted
-  pub rest-most : (spot : Spot) → Stands s spot → length (rest s spot) ≤ 56 * 2147483648
+  pub rest-most : (spot : Spot) → Stands s spot → length (rest s spot) ≤ lineRoom * 2147483648
   unfolding rest
   rest-most spot t = go (spot .place .refusal) refl
     where
-      go : (r : ℕ) → spot .place .refusal ≡ r → length (restBy r (linesFrom (opened s) (spot .segment) (spot .place .k))) ≤ 56 * 2147483648
+      go : (r : ℕ) → spot .place .refusal ≡ r → length (restBy r (linesFrom (opened s) (spot .segment) (spot .place .k))) ≤ lineRoom * 2147483648
       go zero z =
           let e = walks spot t z in
           let a = asked (spot .segment) e in

@@ -10,7 +10,9 @@ use lib.Seq.{take-at, length-take-le, lt-length-set, take-set-le, drop-set-lt, d
 use lib.Dec.{ltb}
 use borrow.Author.Tests.{ltb-true, ltb-false, lt-ltb, le-ltb}
 use Rattle.rules.specs.Numbers.{digits, splice}
+use Rattle.rules.specs.Points.{markNumber}
 use Rattle.rules.proofs.Numbers.{length-digits}
+use Rattle.rules.proofs.Marks.{mark-le}
 use Rattle.copies.proofs.Laws.{length-splice, splice-splice, then}
 use Rattle.listing.specs.Listing.{sign, spelled, placesBy, places, line}
 use Rattle.listing.specs.Pages.{Wrote}
@@ -62,6 +64,10 @@ places-most (suc w) n h =
 -- a number of 32 bits has at most ten
 pub places-few : (n : ℕ) → n < 2 ^ 32 → places n ≤ 10
 places-few n h = places-most 9 n (omega arith)
+
+-- a mark has one
+pub places-mark : (b : Bool) → places (markNumber b) ≡ 1
+places-mark b = places-small (markNumber b) (omega (arith, mark-le b))
 
 -- ---- text over a buffer
 

@@ -8,7 +8,7 @@ use lib.Ieee.{binary64, toBits}
 use Rattle.rules.specs.Numbers.{digits, upFrom}
 use Rattle.rules.specs.Wave.{Wave, orderOf, segments, points}
 use Rattle.rules.specs.Rules.{refusal, opened}
-use Rattle.rules.specs.Points.{value, time}
+use Rattle.rules.specs.Points.{value, time, mark, markNumber}
 use Rattle.block.specs.Opened.{arraysOf}
 
 -- ---- numbers as text
@@ -48,9 +48,9 @@ line (w ∷ v ∷ ws) = w ++ (32 ∷ line (v ∷ ws))
 unfoldable pub firstLine : (ℕ → ℕ) → List ℕ
 firstLine h = line (decimal (segments h) ∷ decimal (points h) ∷ decimal (arraysOf h) ∷ decimal (orderOf h) ∷ decimal (h 32) ∷ [])
 
--- of point k of segment n of array 1: segment, k, value bits, time bits
+-- of point k of segment n of array 1: segment, k, value bits, time bits, and the mark, 0 or 1
 unfoldable pub pointLine : Wave → ℕ → ℕ → List ℕ
-pointLine w n k = line (decimal n ∷ decimal k ∷ hex (toBits binary64 (value w 1 n k)) ∷ hex (toBits binary64 (time w n k)) ∷ [])
+pointLine w n k = line (decimal n ∷ decimal k ∷ hex (toBits binary64 (value w 1 n k)) ∷ hex (toBits binary64 (time w n k)) ∷ decimal (markNumber (mark w 1 n k)) ∷ [])
 
 -- `refused` and the number; and `too long`
 unfoldable pub refusedLine : ℕ → List ℕ

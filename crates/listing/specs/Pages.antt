@@ -13,6 +13,10 @@ use Rattle.listing.specs.Listing.{firstLine, refusedLine, tooLong, segme
 use Rattle.listing.specs.declared.pages.Spot.{Spot}
 use Rattle.listing.specs.declared.pages.Page.{Page}
 
+-- room for the longest line, a point's: segment and k of up to ten digits, value and time bits of 16, the mark, and a byte behind each
+abbrev pub lineRoom : ℕ
+lineRoom = 58
+
 -- bs were written over l from `at` on, which left l', and they end at e
 pub record Wrote (l : List ℕ) (at : ℕ) (bs : List ℕ) (l' : List ℕ) (e : ℕ) : Type 0 where
   pub leaves : l' ≡ splice l at bs

@@ -8,10 +8,13 @@ ghost use Prim.Native.Nat.{_+_, _≤_, _<_};
 ghost use lib.ListN.{length};
 ghost use Rattle.rules.specs.Rules.{opened};
 ghost use Rattle.listing.specs.Listing.{listing, pointLine};
-ghost use Rattle.listing.specs.Pages.{Wrote, Stands, Paged, front, rest, spotAt};
+ghost use Rattle.listing.specs.Pages.{Wrote, lineRoom, Stands, Paged, front, rest, spotAt};
 
 // The most bytes of input that are listed.
 const MOST: usize = 65536;
+
+// Room for the longest line.
+const LINE_ROOM: usize = 58;
 
 // Where a listing stands: before the point at a place of a segment, or at its end, where the place is refused.
 pub struct Spot {
@@ -27,9 +30,9 @@ pub struct Page {
 
 // The first line: `too long`, a refusal or what the block holds, at out's start; and where it ends.
 pub fn put_front(block: &[u8], out: &mut [u8]) -> usize
-    requires { ⌜ 56 ≤ length (now out) ⌝ }
+    requires { ⌜ lineRoom ≤ length (now out) ⌝ }
     ensures { λ r. ⌜ Wrote (now (out .entry)) 0 (front (now (block .entry))) (now (out .exit)) r ⌝ }
-    ensures { λ r. ⌜ r ≤ 56 ⌝ }
+    ensures { λ r. ⌜ r ≤ lineRoom ⌝ }
 {
     if block.len() > MOST {
         return lines::put_too_long(out);
@@ -65,10 +68,10 @@ fn spot_at(block: &[u8], segment: u32) -> Spot
 // As many whole lines as fit, at out's start, from a spot on.
 pub fn put_page(block: &[u8], spot: Spot, out: &mut [u8]) -> Page
     requires { ⌜ Stands (now block) spot ⌝ }
-    requires { ⌜ 56 ≤ length (now out) ⌝ }
+    requires { ⌜ lineRoom ≤ length (now out) ⌝ }
     ensures { λ r. ⌜ Paged (now (block .entry)) spot (now (out .exit)) r ⌝ }
 {
-    let last = out.len() - 56;
+    let last = out.len() - LINE_ROOM;
     let mut here = spot;
     let mut at = 0;
     while here.place.refusal == 0 && at <= last {
@@ -85,12 +88,12 @@ pub fn put_page(block: &[u8], spot: Spot, out: &mut [u8]) -> Page
 fn put_line(block: &[u8], spot: Spot, out: &mut [u8], at: usize) -> usize
     requires { ⌜ Stands (now block) spot ⌝ }
     requires { ⌜ spot .place .refusal ≡ 0 ⌝ }
-    requires { ⌜ at + 56 ≤ length (now out) ⌝ }
+    requires { ⌜ at + lineRoom ≤ length (now out) ⌝ }
     ensures { λ r. ⌜ Wrote (now (out .entry)) at (pointLine (opened (now (block .entry))) (spot .segment) (spot .place .k)) (now (out .exit)) r ⌝ }
-    ensures { λ r. ⌜ (at < r) × (r ≤ at + 56) ⌝ }
+    ensures { λ r. ⌜ (at < r) × (r ≤ at + lineRoom) ⌝ }
 {
     let place = spot.place;
-    let Step::Point { value, time } = points::step_at(block, place) else {
+    let Step::Point { value, time, mark } = points::step_at(block, place) else {
         return at;
     };
     lines::put_point(
@@ -98,6 +101,7 @@ fn put_line(block: &[u8], spot: Spot, out: &mut [u8], at: usize) -> usize
         place.k,
         scale::bits(value),
         scale::bits(time),
+        mark,
         out,
         at,
     )

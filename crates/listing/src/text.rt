@@ -4,6 +4,7 @@ ghost use mathlib.Core.List.{[], _∷_, _++_};
 ghost use Prim.Native.Nat.{_+_, _≤_, _<_};
 ghost use lib.ListN.{length};
 ghost use Rattle.rules.specs.Numbers.{splice};
+ghost use Rattle.rules.specs.Points.{markNumber};
 ghost use Rattle.listing.specs.Listing.{sign, spelled, decimal, hex};
 ghost use Rattle.listing.specs.Listing.{places as Listing·places};
 ghost use Rattle.listing.specs.Pages.{Wrote};
@@ -25,6 +26,22 @@ pub fn put_hex(n: u64, end: u8, out: &mut [u8], at: usize) -> usize
     ensures { λ r. ⌜ r ≡ at + 17 ⌝ }
 {
     put_word(n, 16, 16, end, out, at)
+}
+
+// A mark as 0 or 1 and the byte `end`, from `at`; and where they end.
+pub fn put_mark(mark: bool, end: u8, out: &mut [u8], at: usize) -> usize
+    requires { ⌜ at + 2 ≤ length (now out) ⌝ }
+    ensures { λ r. ⌜ Wrote (now (out .entry)) at (decimal (markNumber mark) ++ (end ∷ [])) (now (out .exit)) r ⌝ }
+    ensures { λ r. ⌜ r ≡ at + 2 ⌝ }
+{
+    put_word(mark_number(mark), 10, 1, end, out, at)
+}
+
+// 1 for a mark.
+fn mark_number(mark: bool) -> u64
+    ensures { λ r. ⌜ r ≡ markNumber mark ⌝ }
+{
+    if mark { 1 } else { 0 }
 }
 
 // How many decimal digits n has.

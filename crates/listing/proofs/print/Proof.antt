@@ -8,7 +8,7 @@ use lib.ListN.{length, take}
 use lib.Seq.{length-take-le}
 use borrow.Author.Tests.{eqb-true, eqb-false}
 use Rattle.rules.proofs.Numbers.{below-index}
-use Rattle.listing.specs.Pages.{rest}
+use Rattle.listing.specs.Pages.{lineRoom, rest}
 use Rattle.listing.specs.Outputs.{Next}
 use Rattle.listing.proofs.Rests.{shorter}
 use Rattle.listing.proofs.Printed.{Before, first-next, page-next, all-sent}
@@ -18,7 +18,7 @@ use Rattle.listing.proofs.print.Tie as tie
 
 abbrev Inv-loop : tie.InvT-loop
 Inv-loop block sent₀ out₀ first spot₀ going₀ sent out spot going =
-    (56 ≤ length out) × Before block spot sent
+    (lineRoom ≤ length out) × Before block spot sent
 
 abbrev μ-loop : tie.MeasureT-loop
 μ-loop block sent₀ out₀ first spot₀ going₀ sent out spot going = length (rest block spot)

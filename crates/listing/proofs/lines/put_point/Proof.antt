@@ -1,7 +1,8 @@
--- Four words, one behind the other.
+-- Five words, one behind the other.
 use mathlib.Core.List.{List, [], _∷_}
 use Prim.Native.Nat.{ℕ}
 use native.Mathlib.Omega.{arith}
+use Rattle.rules.specs.Points.{markNumber}
 use Rattle.listing.specs.Listing.{decimal, hex}
 use Rattle.listing.proofs.Texts.{word-line}
 use borrow.Author.Needs.{needs}
@@ -20,18 +21,24 @@ put-hex-requires c κs = search needs
 put-hex-requires-2 : tie.Need-put-hex-requires-2
 put-hex-requires-2 c κs = search needs
 
+put-mark-requires : tie.Need-put-mark-requires
+put-mark-requires c κs = search needs
+
 same-length : tie.Need-same-length
 same-length c = search needs
 
 returns : tie.Need-returns
 returns c =
-    let a = c .before .before .before .before .before .before .before .before .before .before .before .before .before .before .before .before .before .args in
+    let a = c .before .before .before .before .before .before .before .before .before .before .before .before .before .before .before .before .before .before .before .before .before .args in
     let n : List ℕ = decimal (a .segment) in
     let k : List ℕ = decimal (a .k) in
     let v : List ℕ = hex (a .value) in
-    let t : List ℕ = hex (a .time) in (
-      word-line n k (v ∷ t ∷ []) (c .before .before .before .before .before .before .before .before .before .before .before .before .before .before .put-decimal .ensures .0)
-          (word-line k v (t ∷ []) (c .before .before .before .before .before .before .before .before .before .before .put-decimal2 .ensures .0) (word-line v t [] (c .before .before .before .before .before .before .put-hex .ensures .0) (c .before .before .put-hex2 .ensures .0) (omega arith)) (omega arith))
+    let t : List ℕ = hex (a .time) in
+    let m : List ℕ = decimal (markNumber (a .mark)) in (
+      word-line n k (v ∷ t ∷ m ∷ []) (c .before .before .before .before .before .before .before .before .before .before .before .before .before .before .before .before .before .before .put-decimal .ensures .0)
+          (word-line k v (t ∷ m ∷ []) (c .before .before .before .before .before .before .before .before .before .before .before .before .before .before .put-decimal2 .ensures .0)
+          (word-line v t (m ∷ []) (c .before .before .before .before .before .before .before .before .before .before .put-hex .ensures .0) (word-line t m [] (c .before .before .before .before .before .before .put-hex2 .ensures .0) (c .before .before .put-mark .ensures .0) (omega arith)) (omega arith))
+          (omega arith))
           (omega arith),
       (omega arith, omega arith),
     )
@@ -44,5 +51,6 @@ put-point-spec =
     put-decimal-requires-2
     put-hex-requires
     put-hex-requires-2
+    put-mark-requires
     same-length
     returns)

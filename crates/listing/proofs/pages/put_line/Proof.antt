@@ -10,13 +10,13 @@ use Rattle.listing.proofs.pages.put_line.Tie as tie
 bytes : (c : tie.After-shared-slice-known) → Bytes (c .before .args .block .now)
 bytes c = below-index 256 (c .before .args .block .now) (λ i h. c .shared-slice-known .given i .fits)
 
--- the two numbers of the step
-handed : (c : tie.After-value) → Handed (c .before .before .before .before .before .before .args .block .now) (c .before .before .before .before .before .before .args .spot) (c .value .given .0 .0) (c .value .given .0 .1 .0)
+-- the step's numbers and its mark
+handed : (c : tie.After-value) → Handed (c .before .before .before .before .before .before .args .block .now) (c .before .before .before .before .before .before .args .spot) (c .value .given .0 .0) (c .value .given .0 .1 .0) (c .value .given .0 .1 .1 .0)
 handed c =
     let x = c .before .before .before .before .before .before in
     let v = c .value .given in
     let r = c .before .before .step-at in
-    step-handed (x .args .block .now) (bytes (c .before .before .before .before .before)) (x .args .spot) (x .pre .0) (x .pre .1 .0) (r .result) (v .0 .0) (v .0 .1 .0) (r .ensures) (v .1)
+    step-handed (x .args .block .now) (bytes (c .before .before .before .before .before)) (x .args .spot) (x .pre .0) (x .pre .1 .0) (r .result) (v .0 .0) (v .0 .1 .0) (v .0 .1 .1 .0) (r .ensures) (v .1)
 
 step-at-requires : tie.Need-step-at-requires
 step-at-requires c κs = search needs
@@ -51,7 +51,7 @@ returns-2 c =
     let v = c .before .before .before .before .before .before .before .value .given .0 in
     let x = c .before .before .before .before .before .bits in
     let y = c .before .before .before .before .bits2 in
-    let e = handed-line (a .block .now) (a .spot) (v .0) (v .1 .0) (handed (c .before .before .before .before .before .before .before)) (x .result) (y .result) (x .ensures) (y .ensures) in
+    let e = handed-line (a .block .now) (a .spot) (v .0) (v .1 .0) (v .1 .1 .0) (handed (c .before .before .before .before .before .before .before)) (x .result) (y .result) (x .ensures) (y .ensures) in
     (worded e (c .before .before .put-point .ensures .0), c .before .before .put-point .ensures .1)
 
 pub put-line-spec : {M : Type 1} → statement M

@@ -8,7 +8,7 @@ use borrow.Author.Tests.{leb-true, leb-false}
 use Rattle.rules.specs.Rules.{opened}
 use Rattle.listing.specs.declared.pages.Spot.{Spot}
 use Rattle.listing.specs.Listing.{pointLine}
-use Rattle.listing.specs.Pages.{Stands, rest}
+use Rattle.listing.specs.Pages.{lineRoom, Stands, rest}
 use Rattle.listing.proofs.Texts.{taken}
 use borrow.Author.Needs.{needs}
 use Rattle.listing.proofs.pages.put_page.Statement.{statement}
@@ -17,7 +17,7 @@ use Rattle.listing.proofs.pages.put_page.Tie as tie
 abbrev Inv-loop : tie.InvT-loop
 Inv-loop block out₀ last here₀ at₀ out here at =
     (length out ≡ length out₀)
-    × (last + 56 ≡ length out₀)
+    × (last + lineRoom ≡ length out₀)
     × (at ≤ length out)
     × Stands block here
     × (rest block here₀ ≡ take at out ++ rest block here)
