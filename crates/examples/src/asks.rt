@@ -79,8 +79,7 @@ pub fn marks(name: &[u8], samples: &[u8], kind: u16, order: u16, k: u32)
     blocks::make_of(samples, kind, order, &mut block);
     let slice = 11 + 346 + samples.len();
     let p = points::point(first(&block, slice), 1, 1, k);
-    let number = if p.mark { 1 } else { 0 };
-    print_in(order, number, name);
+    print_in(order, fills::mark_number(p.mark) as u32, name);
 }
 
 // Fills the values of a block with these samples, and asks how many of them have the mark.

@@ -34,14 +34,8 @@ pub fn put_mark(mark: bool, end: u8, out: &mut [u8], at: usize) -> usize
     ensures { λ r. ⌜ Wrote (now (out .entry)) at (decimal (markNumber mark) ++ (end ∷ [])) (now (out .exit)) r ⌝ }
     ensures { λ r. ⌜ r ≡ at + 2 ⌝ }
 {
-    put_word(mark_number(mark), 10, 1, end, out, at)
-}
-
-// 1 for a mark.
-fn mark_number(mark: bool) -> u64
-    ensures { λ r. ⌜ r ≡ markNumber mark ⌝ }
-{
-    if mark { 1 } else { 0 }
+    let n = fills::mark_number(mark) as u64;
+    put_word(n, 10, 1, end, out, at)
 }
 
 // How many decimal digits n has.

@@ -13,6 +13,9 @@ use Rattle.listing.proofs.text.put_mark.Tie as tie
 mark-number-requires : tie.Need-mark-number-requires
 mark-number-requires c κs = search needs
 
+cast-n : tie.Need-cast-n
+cast-n c = search needs
+
 put-word-requires : tie.Need-put-word-requires
 put-word-requires c κs = search needs
 
@@ -26,4 +29,4 @@ returns c =
     (worded e (c .before .before .put-word .ensures .0), omega (arith, c .before .before .put-word .ensures .1))
 
 pub put-mark-spec : {M : Type 1} → statement M
-put-mark-spec = tie.close (tie.spec mark-number-requires put-word-requires same-length returns)
+put-mark-spec = tie.close (tie.spec mark-number-requires cast-n put-word-requires same-length returns)
