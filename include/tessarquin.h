@@ -197,8 +197,8 @@ uint32_t tessarquin_label(const uint8_t *block, size_t block_len,
  * by how much nobody knows: a peak or a rise time that is taken there means nothing. Such a point has the mark 1.
  *
  * The mark 0 says no more than that the sample is another number. What was clipped before it was a sample has no mark,
- * and an instrument may stop short of its type's numbers: MAX_VALUE and MIN_VALUE of the descriptor are its own limits,
- * 32,512 for example where a word carries the eight bits that were measured.
+ * and an instrument may stop short of its type's numbers: MAX_VALUE and MIN_VALUE of the descriptor are the limits that
+ * it states itself, 32,512 and -32,768 for words in the example of its manual.
  */
 
 /* The numbers that tessarquin_point answers: two doubles and a mark. */

@@ -33,14 +33,7 @@ module _ (size : ℕ) where
   marks-le [] = omega arith
   marks-le (x ∷ xs) = omega (arith, marks-le xs, mark-le (atRail size x))
 
--- a segment has no more marks than samples
-pub mark-count-le : (w : Wave) (a n : ℕ) → markCount w a n ≤ points (w .head)
-unfolding markCount
-mark-count-le w a n =
-    let m : ℕ = points (w .head) in
-    omega (arith, marks-le (sizeOf (w .head)) (map (sample w a n) (upFrom 0 m)), length-map (upFrom 0 m) (sample w a n), length-upFrom 0 m)
-
--- its count is the number of its points that have the mark
+-- the count of a segment is the number of its points that have the mark
 points-marked : (w : Wave) (a n : ℕ) (ks : List ℕ) → marksIn (sizeOf (w .head)) (map (sample w a n) ks) ≡ total (map (λ (k : ℕ). markNumber (mark w a n k)) ks)
 unfolding marksIn mark
 points-marked w a n [] = refl
@@ -49,3 +42,10 @@ points-marked w a n (k ∷ ks) = ap (λ (m : ℕ). markNumber (atRail (sizeOf (w
 pub mark-count-points : (w : Wave) (a n : ℕ) → markCount w a n ≡ total (map (λ (k : ℕ). markNumber (mark w a n k)) (upFrom 0 (points (w .head))))
 unfolding markCount
 mark-count-points w a n = points-marked w a n (upFrom 0 (points (w .head)))
+
+-- and no more than there are
+pub mark-count-le : (w : Wave) (a n : ℕ) → markCount w a n ≤ points (w .head)
+unfolding markCount
+mark-count-le w a n =
+    let m : ℕ = points (w .head) in
+    omega (arith, marks-le (sizeOf (w .head)) (map (sample w a n) (upFrom 0 m)), length-map (upFrom 0 m) (sample w a n), length-upFrom 0 m)
