@@ -1,5 +1,5 @@
 -- What stands behind the zero byte of a name is not judged: slices that differ only there have the same number (`behind-free`), and where they are
--- accepted the same values and times (`value-free`, `time-free`).
+-- accepted the same values, marks and times (`value-free`, `mark-free`, `time-free`).
 use mathlib.Core.Path.{_≡_, refl, sym, ap, ap₂, _∙_, fun-ext}
 use Prim.Native.Nat.{ℕ, _+_, _-_, _≤_, _<_, min}
 use native.Mathlib.Nat.{zero-add}
@@ -14,7 +14,7 @@ use Rattle.rules.specs.Numbers.{Bytes, number, low, pieces, upFrom}
 use Rattle.rules.specs.Template.{template, widthAt, fields}
 use Rattle.rules.specs.Wave.{Wave, headOf, parts, waveOf, decode}
 use Rattle.rules.specs.Rules.{all, first, every?, digit?, digitCount, stated, payloadStart, payload, frame, sized, named, formed, tiled, counted, placed, measured, timed, inner, rules, refusal, opened}
-use Rattle.rules.specs.Points.{value, sample, time, ruleOf}
+use Rattle.rules.specs.Points.{value, sample, mark, time, ruleOf}
 use Rattle.rules.proofs.Tests.{all-each, first-alike}
 use Rattle.rules.proofs.Facts.{Sized, sized-says, sized-there, tiled-says}
 use Rattle.rules.proofs.Slices.{payload-length, payload-byte, every-from, byte-read}
@@ -191,6 +191,10 @@ module _ (s t : List ℕ) (a : Alike s t) where
     pub value-free : (x n k : ℕ) → value (opened t) x n k ≡ value (opened s) x n k
     unfolding value sample opened decode waveOf mixed
     value-free x n k = ap (λ (w : Wave). value w x n k) opened-alike
+
+    pub mark-free : (x n k : ℕ) → mark (opened t) x n k ≡ mark (opened s) x n k
+    unfolding mark sample opened decode waveOf mixed
+    mark-free x n k = ap (λ (w : Wave). mark w x n k) opened-alike
 
     pub time-free : (n k : ℕ) → time (opened t) n k ≡ time (opened s) n k
     unfolding time ruleOf opened decode waveOf mixed
