@@ -24,12 +24,23 @@ static void put_double(uint8_t *at, double x)
     memcpy(at, &bits, sizeof bits);
 }
 
+/* Whether a sample stands at the rail. */
+static uint32_t byte_mark(int8_t z)
+{
+    return (z == INT8_MIN) | (z == INT8_MAX);
+}
+
+static uint32_t word_mark(int16_t z)
+{
+    return (z == INT16_MIN) | (z == INT16_MAX);
+}
+
 uint32_t same_fill_bytes(const uint8_t *restrict samples, size_t n, float gain, float offset, uint8_t *restrict out)
 {
     uint32_t marks = 0;
     for (size_t k = 0; k < n; k++) {
         int8_t z = (int8_t)samples[k];
-        marks += (z == INT8_MIN) | (z == INT8_MAX);
+        marks += byte_mark(z);
         put_double(out + 8 * k, (double)gain * z - (double)offset);
     }
     return marks;
@@ -40,7 +51,7 @@ uint32_t same_fill_words_low(const uint8_t *restrict samples, size_t n, float ga
     uint32_t marks = 0;
     for (size_t k = 0; k < n; k++) {
         int16_t z = (int16_t)word(samples + 2 * k);
-        marks += (z == INT16_MIN) | (z == INT16_MAX);
+        marks += word_mark(z);
         put_double(out + 8 * k, (double)gain * z - (double)offset);
     }
     return marks;
@@ -51,7 +62,7 @@ uint32_t same_fill_words_high(const uint8_t *restrict samples, size_t n, float g
     uint32_t marks = 0;
     for (size_t k = 0; k < n; k++) {
         int16_t z = (int16_t)__builtin_bswap16(word(samples + 2 * k));
-        marks += (z == INT16_MIN) | (z == INT16_MAX);
+        marks += word_mark(z);
         put_double(out + 8 * k, (double)gain * z - (double)offset);
     }
     return marks;
@@ -62,7 +73,7 @@ uint32_t same_values_bytes(const uint8_t *restrict samples, size_t n, float gain
     uint32_t marks = 0;
     for (size_t k = 0; k < n; k++) {
         int8_t z = (int8_t)samples[k];
-        marks += (z == INT8_MIN) | (z == INT8_MAX);
+        marks += byte_mark(z);
         out[k] = (double)gain * z - (double)offset;
     }
     return marks;
@@ -73,7 +84,7 @@ uint32_t same_values_words_low(const uint8_t *restrict samples, size_t n, float 
     uint32_t marks = 0;
     for (size_t k = 0; k < n; k++) {
         int16_t z = (int16_t)word(samples + 2 * k);
-        marks += (z == INT16_MIN) | (z == INT16_MAX);
+        marks += word_mark(z);
         out[k] = (double)gain * z - (double)offset;
     }
     return marks;
@@ -84,7 +95,7 @@ uint32_t same_values_words_high(const uint8_t *restrict samples, size_t n, float
     uint32_t marks = 0;
     for (size_t k = 0; k < n; k++) {
         int16_t z = (int16_t)__builtin_bswap16(word(samples + 2 * k));
-        marks += (z == INT16_MIN) | (z == INT16_MAX);
+        marks += word_mark(z);
         out[k] = (double)gain * z - (double)offset;
     }
     return marks;

@@ -72,7 +72,7 @@ static void print_segments(const struct opened *o, uint32_t array, const struct 
     }
     if (rail->segments > lines) {
         print_array(array);
-        printf(", %s: ", counted(rail->segments - lines, "more segment"));
+        printf(", in %s: ", counted(rail->segments - lines, "more segment"));
         print_samples(rest, (uint64_t)o->points * (rail->segments - lines));
         putchar('\n');
     }
@@ -86,7 +86,7 @@ void show_rail(const struct opened *o, uint32_t array)
     print_samples(rail.samples, (uint64_t)o->points * o->segments);
     if (o->segments > 1)
         printf(" in %s of %s", grouped(rail.segments), counted(o->segments, "segment"));
-    puts("; the true value may be beyond, and a peak or a rise time there means nothing");
+    puts("; these may be clipped: a peak, a mean or a rise time with them means nothing");
     if (o->segments > 1)
         print_segments(o, array, &rail);
 }

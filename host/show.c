@@ -195,17 +195,40 @@ static void show_record(const struct opened *o)
 
 /* ---- the vertical side */
 
+/* The values of two samples, the lower one first, and the samples themselves. */
+static void print_values_of(float low, float high, const struct opened *o, struct part unit)
+{
+    double gain = (double)float_at(o, TESSARQUIN_AT_VERTICAL_GAIN), offset = (double)float_at(o, TESSARQUIN_AT_VERTICAL_OFFSET);
+    double one = gain * (double)low - offset, other = gain * (double)high - offset;
+    print_range(one < other ? one : other, one < other ? other : one, unit);
+    fputs(" (samples ", stdout);
+    print_float(low);
+    fputs(" to ", stdout);
+    print_float(high);
+    puts(")");
+}
+
+/* The least and the greatest sample that the instrument allows, as it states them: it may clip there, before the rail. */
+static void show_limits(const struct opened *o, struct part unit)
+{
+    float low = float_at(o, TESSARQUIN_AT_MIN_VALUE), high = float_at(o, TESSARQUIN_AT_MAX_VALUE);
+    print_name("stated limits");
+    if (low == 0 && high == 0)
+        puts("(none)");
+    else
+        print_values_of(low, high, o, unit);
+}
+
 static void show_vertical(const struct opened *o, struct part unit)
 {
     float gain = float_at(o, TESSARQUIN_AT_VERTICAL_GAIN), offset = float_at(o, TESSARQUIN_AT_VERTICAL_OFFSET);
     int low = o->type == TESSARQUIN_WORD ? INT16_MIN : INT8_MIN, high = o->type == TESSARQUIN_WORD ? INT16_MAX : INT8_MAX;
-    double one = (double)gain * low - (double)offset, other = (double)gain * high - (double)offset;
     print_text("values in", unit);
     print_float_in("gain", gain, unit);
     print_float_in("offset", offset, unit);
     print_name("full range");
-    print_range(one < other ? one : other, one < other ? other : one, unit);
-    printf(" (samples %d to %d)\n", low, high);
+    print_values_of((float)low, (float)high, o, unit);
+    show_limits(o, unit);
     print_float_in("probe", float_at(o, TESSARQUIN_AT_PROBE_ATT), (struct part){NULL, 0});
     print_name("coupling");
     puts(coupling(word_at(o, TESSARQUIN_AT_VERT_COUPLING)));
@@ -308,10 +331,10 @@ static int print_place(const struct opened *o, uint32_t array, const char *name,
     struct point point = point_of(o, array, segment, k);
     printf("%s ", name);
     print_double_in(point.value, unit);
+    fputs(" (", stdout);
     if (o->segments > 1)
-        printf(" (segment %s, point %s), ", grouped(segment), grouped(k));
-    else
-        printf(" (point %s), ", grouped(k));
+        printf("segment %s, ", grouped(segment));
+    printf("point %s%s), ", grouped(k), point.mark ? ", at the rail" : "");
     return point.mark;
 }
 

@@ -54,7 +54,9 @@
 extern "C" {
 #endif
 
-/* The version of these calls. Below 1.0 the second number moves where a call takes or answers something else. */
+/* The version of these calls. Below 1.0 the second number moves where a call takes or answers something else: since 0.2
+   tessarquin_point answers 24 bytes (16 before), and tessarquin_fill eight bytes behind its M values. Whoever fills
+   segments back to back leaves room for them. Header and archive have to be of one version. */
 #define TESSARQUIN_VERSION_MAJOR 0
 #define TESSARQUIN_VERSION_MINOR 2
 #define TESSARQUIN_VERSION "0.2"
@@ -197,8 +199,9 @@ uint32_t tessarquin_label(const uint8_t *block, size_t block_len,
  * by how much nobody knows: a peak or a rise time that is taken there means nothing. Such a point has the mark 1.
  *
  * The mark 0 says no more than that the sample is another number. What was clipped before it was a sample has no mark,
- * and an instrument may stop short of its type's numbers: MAX_VALUE and MIN_VALUE of the descriptor are the limits that
- * it states itself, 32,512 and -32,768 for words in the example of its manual.
+ * and an instrument may stop short of its type's numbers: MIN_VALUE and MAX_VALUE of the descriptor are the least and
+ * the greatest sample that it allows, -32,768 and 32,512 for words in the example of its manual. A cut keeps the marks
+ * of the points that it keeps: where it thins, the marked ones may be among those that it leaves out.
  */
 
 /* The numbers that tessarquin_point answers: two doubles and a mark. */
@@ -237,7 +240,10 @@ uint32_t tessarquin_point(const uint8_t *block, size_t block_len,
  *
  * The answer is M doubles, each the value that tessarquin_point answers, bit for bit, and behind them one number: how
  * many of these points have the mark. tessarquin_doubles reads the values, and tessarquin_number(answer, M) the count.
- * Which points they are, where the count is above 0, tessarquin_point says. For segment 1 of array 1:
+ * Which points they are, where the count is above 0, tessarquin_point says. Of a block with very many segments each call,
+ * a cut too, judges the trigger times of all: host/blocks.c shows how one cut serves every segment (put_segment).
+ *
+ * For segment 1 of array 1:
  *
  *     uint8_t open[TESSARQUIN_OPEN_BYTES];
  *     if (tessarquin_open(block, block_len, open, sizeof open) == TESSARQUIN_OK) {
@@ -359,8 +365,8 @@ enum tessarquin_field {
     TESSARQUIN_AT_PAIR_OFFSET = 154,       /* word */
     TESSARQUIN_AT_VERTICAL_GAIN = 156,     /* float */
     TESSARQUIN_AT_VERTICAL_OFFSET = 160,   /* float */
-    TESSARQUIN_AT_MAX_VALUE = 164,         /* float */
-    TESSARQUIN_AT_MIN_VALUE = 168,         /* float */
+    TESSARQUIN_AT_MAX_VALUE = 164,         /* float: the greatest sample that the instrument allows */
+    TESSARQUIN_AT_MIN_VALUE = 168,         /* float: the least */
     TESSARQUIN_AT_NOMINAL_BITS = 172,      /* word */
     TESSARQUIN_AT_NOM_SUBARRAY_COUNT = 174, /* word */
     TESSARQUIN_AT_HORIZ_INTERVAL = 176,    /* float */

@@ -127,12 +127,39 @@ static double *floats(const struct slice *slice)
     return (double *)start(slice);
 }
 
-static uint64_t call(enum kind kind, const uint32_t n[5], const struct slice lent[SLICES])
+/* The calls that are not in the library. */
+static uint64_t call_of_tests(enum kind kind, const uint32_t n[5], const struct slice lent[SLICES])
 {
     const uint8_t *block = start(&lent[BLOCK]), *fallback = start(&lent[FALLBACK]);
-    uint8_t *out = start(&lent[OUT]), *answer = start(&lent[ANSWER]), *marks = start(&lent[MARKS]);
-    size_t block_len = lent[BLOCK].len, fallback_len = lent[FALLBACK].len;
-    size_t out_len = lent[OUT].len, answer_len = lent[ANSWER].len, marks_len = lent[MARKS].len;
+    uint8_t *answer = start(&lent[ANSWER]), *marks = start(&lent[MARKS]);
+    size_t block_len = lent[BLOCK].len, answer_len = lent[ANSWER].len, marks_len = lent[MARKS].len;
+    size_t out_floats = lent[OUT].len / sizeof(double), answer_floats = answer_len / sizeof(double);
+
+    switch (kind) {
+    case FLOATS:
+        return measured_fill(block, block_len, n[0], n[1], floats(&lent[ANSWER]), answer_floats);
+    case WALKED_FLOATS:
+        return measured_walk(block, block_len, n[0], n[1], floats(&lent[ANSWER]), answer_floats);
+    case WALK:
+        return compared_steps(block, block_len, n[0], n[1], floats(&lent[OUT]), out_floats, floats(&lent[ANSWER]),
+                              answer_floats, marks, marks_len);
+    case STEP:
+        return compared_step(block, block_len, n[0], n[1], n[2], floats(&lent[ANSWER]), answer_floats, marks, marks_len);
+    case USER_TEXT:
+        return compared_user_text(block, block_len, answer, answer_len);
+    case LABEL:
+        return compared_label(block, block_len, fallback, lent[FALLBACK].len, answer, answer_len);
+    default:
+        fprintf(stderr, "no such call: %d\n", kind);
+        exit(2);
+    }
+}
+
+static uint64_t call(enum kind kind, const uint32_t n[5], const struct slice lent[SLICES])
+{
+    const uint8_t *block = start(&lent[BLOCK]);
+    uint8_t *out = start(&lent[OUT]), *answer = start(&lent[ANSWER]);
+    size_t block_len = lent[BLOCK].len, out_len = lent[OUT].len, answer_len = lent[ANSWER].len;
 
     switch (kind) {
     case PROBE:
@@ -145,29 +172,15 @@ static uint64_t call(enum kind kind, const uint32_t n[5], const struct slice len
         return tessarquin_fill(block, block_len, n[0], n[1], answer, answer_len);
     case CUT:
         return tessarquin_cut(block, block_len, n[0], n[1], n[2], n[3], n[4], out, out_len, answer, answer_len);
-    case FLOATS:
-        return measured_fill(block, block_len, n[0], n[1], floats(&lent[ANSWER]), answer_len / sizeof(double));
-    case WALK:
-        return compared_steps(block, block_len, n[0], n[1], floats(&lent[OUT]), out_len / sizeof(double),
-                              floats(&lent[ANSWER]), answer_len / sizeof(double), marks, marks_len);
-    case STEP:
-        return compared_step(block, block_len, n[0], n[1], n[2], floats(&lent[ANSWER]), answer_len / sizeof(double),
-                             marks, marks_len);
-    case USER_TEXT:
-        return compared_user_text(block, block_len, answer, answer_len);
-    case LABEL:
-        return compared_label(block, block_len, fallback, fallback_len, answer, answer_len);
     case LAYOUT:
         return tessarquin_layout(block, block_len, answer, answer_len);
     case TEXT_PLACE:
         return tessarquin_user_text(block, block_len, answer, answer_len);
     case LABEL_PLACE:
-        return tessarquin_label(block, block_len, fallback, fallback_len, answer, answer_len);
-    case WALKED_FLOATS:
-        return measured_walk(block, block_len, n[0], n[1], floats(&lent[ANSWER]), answer_len / sizeof(double));
+        return tessarquin_label(block, block_len, start(&lent[FALLBACK]), lent[FALLBACK].len, answer, answer_len);
+    default:
+        return call_of_tests(kind, n, lent);
     }
-    fprintf(stderr, "no such call: %d\n", kind);
-    exit(2);
 }
 
 int main(void)

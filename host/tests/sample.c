@@ -57,6 +57,8 @@ int main(void)
     put(block, 1, 128, 4, SEGMENTS * POINTS - 1);
     put_float(block, 1, 156, 0.0125f);
     put_float(block, 1, 160, 0.0f);
+    put_float(block, 1, 164, 32767.0f);
+    put_float(block, 1, 168, -32768.0f);
     put_float(block, 1, 176, 2e-7f);
     put_double(block, 1, 180, -8e-7);
     put_text(block, 196, "V");

@@ -155,6 +155,13 @@ fn handed_on(call: Call, reply: &Reply) -> Vec<u64> {
 }
 
 fn same(call: Call, came: &[u64], expected: &[u64]) -> Result<(), Difference> {
+    if came.len() != expected.len() {
+        return Err(Difference(format!(
+            "{call}: {} marks or counts, and {} by the samples",
+            came.len(),
+            expected.len()
+        )));
+    }
     match came.iter().zip(expected).position(|(came, expected)| came != expected) {
         None => Ok(()),
         Some(at) => Err(Difference(format!(

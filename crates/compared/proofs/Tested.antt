@@ -8,7 +8,8 @@ use borrow.Author.Tests.{le-leb, lt-leb}
 use Rattle.rules.specs.Numbers.{upFrom}
 use Rattle.rules.specs.Wave.{points}
 use Rattle.rules.specs.Rules.{opened}
-use Rattle.compared.specs.Tested.{copied, leftBy, stepsLeft}
+use Rattle.points.specs.Points.{outBy}
+use Rattle.compared.specs.Tested.{copied, stepsLeft}
 
 module _ {A : Type 0} (part out : List A) where
   pub copied-fits : length part ≤ length out → part ++ drop (length part) out ≡ copied part out
@@ -28,4 +29,4 @@ module _ {A : Type 0} (s : List ℕ) (number : ℕ) (f : ℕ → A) (out : List 
   pub steps-full : (m : ℕ) → number ≡ 0 → m ≡ points (opened s .head) → map f (upFrom 0 m) ++ drop m out ≡ stepsLeft s number f out
   steps-full m z e =
       let full : List A = map f (upFrom 0 (points (opened s .head))) ++ drop (points (opened s .head)) out in
-      ap (λ (k : ℕ). map f (upFrom 0 k) ++ drop k out) e ∙ ap (λ (k : ℕ). leftBy k full out) (sym z)
+      ap (λ (k : ℕ). map f (upFrom 0 k) ++ drop k out) e ∙ ap (λ (k : ℕ). outBy k full out) (sym z)

@@ -1,5 +1,5 @@
 -- What the calls for the comparison answer and leave, over the definitions of the calls that they are made of. Definitions only.
-use Prim.Native.Nat.{ℕ, zero, suc, min}
+use Prim.Native.Nat.{ℕ, min}
 use mathlib.Core.Bool.{cond}
 use mathlib.Core.List.{List, _++_, map}
 use lib.ListN.{length, drop}
@@ -9,6 +9,7 @@ use Rattle.rules.specs.Numbers.{upFrom}
 use Rattle.rules.specs.Wave.{Wave, points}
 use Rattle.rules.specs.Rules.{opened}
 use Rattle.rules.specs.Points.{value, time, mark, markNumber, fillRefusal}
+use Rattle.points.specs.Points.{outBy}
 
 -- a slice afterwards: the part at its start and behind it what was there; where the part has no room, all that was there
 module _ {A : Type 0} where
@@ -27,12 +28,8 @@ stepsNumber s a n values times marks = fillRefusal s a n (min (min (length value
 
 -- a slice afterwards: of each point what f has for it, or, by the number, all that was there
 module _ {A : Type 0} where
-  abbrev pub leftBy : ℕ → List A → List A → List A
-  leftBy zero full out = full
-  leftBy (suc n) full out = out
-
   abbrev pub stepsLeft : List ℕ → ℕ → (ℕ → A) → List A → List A
-  stepsLeft s number f out = let m = points (opened s .head) in leftBy number (map f (upFrom 0 m) ++ drop m out) out
+  stepsLeft s number f out = let m = points (opened s .head) in outBy number (map f (upFrom 0 m) ++ drop m out) out
 
 unfoldable pub valuesLeft : List ℕ → ℕ → ℕ → List Float → List Float → List ℕ → List Float
 valuesLeft s a n values times marks = stepsLeft s (stepsNumber s a n values times marks) (value (opened s) a n) values

@@ -2,11 +2,10 @@
 -- (`marks-next`, `marks-more`, `marks-one`).
 use mathlib.Core.Path.{_≡_, refl, sym, ap, ap₂, subst, _∙_}
 use mathlib.Core.Bool.{Bool, true, false, _||_, false≢true}
-use mathlib.Core.List.{List, [], _∷_, _++_, map}
-use Prim.Native.Nat.{ℕ, _+_, _≤_, _<_}
+use mathlib.Core.List.{List, [], _∷_, map}
+use Prim.Native.Nat.{ℕ, _+_, _<_}
 use native.Mathlib.Nat.{add-zero}
 use native.Mathlib.Numerals.{add-one}
-use native.Mathlib.Omega.{arith}
 use lib.Dec.{eqb}
 use lib.IntN.{ℤ, pos, negsuc}
 use lib.ListN.{length, take, getD}
@@ -16,9 +15,9 @@ use mir.Syntax.{Width}
 use mir.Val.{SFits, toZ, ofZ}
 use mir.ValLaws.{toZ-ofZ}
 use Rattle.rules.specs.Numbers.{lowest, highest, equal, upFrom}
-use Rattle.rules.specs.Points.{atRail, markNumber, marksIn}
-use Rattle.rules.proofs.Marks.{marks-append, marks-le}
-use Rattle.fills.proofs.Writes.{map-add, length-map-up}
+use Rattle.rules.specs.Points.{atRail, markNumber, markCountOf}
+use Rattle.rules.proofs.Marks.{marks-append}
+use Rattle.fills.proofs.Writes.{map-add}
 
 -- ---- numbers by their bits
 
@@ -53,26 +52,22 @@ rail-bits w size z low high f g h e d =
 -- ---- counts
 
 -- of one sample more
-pub marks-next : (size : ℕ) (xs : List ℤ) (k : ℕ) → k < length xs → marksIn size (take k xs) + markNumber (atRail size (getD xs k (pos 0))) ≡ marksIn size (take (k + 1) xs)
-unfolding marksIn
+pub marks-next : (size : ℕ) (xs : List ℤ) (k : ℕ) → k < length xs → markCountOf size (take k xs) + markNumber (atRail size (getD xs k (pos 0))) ≡ markCountOf size (take (k + 1) xs)
+unfolding markCountOf
 marks-next size xs k h =
-    ap (λ (n : ℕ). marksIn size (take k xs) + n) (sym (add-zero (markNumber (atRail size (getD xs k (pos 0))))))
+    ap (λ (n : ℕ). markCountOf size (take k xs) + n) (sym (add-zero (markNumber (atRail size (getD xs k (pos 0))))))
     ∙ sym (marks-append size (take k xs) (getD xs k (pos 0) ∷ []))
-    ∙ ap (marksIn size) (sym (take-suc xs k (pos 0) h) ∙ ap (λ (n : ℕ). take n xs) (sym (add-one k)))
+    ∙ ap (markCountOf size) (sym (take-suc xs k (pos 0) h) ∙ ap (λ (n : ℕ). take n xs) (sym (add-one k)))
 
 -- of samples f one behind the other
 module _ (size : ℕ) (f : ℕ → ℤ) where
-  -- no more than there are samples
-  pub marks-few : (a n : ℕ) → marksIn size (map f (upFrom a n)) ≤ n
-  marks-few a n = omega (arith, marks-le size (map f (upFrom a n)), length-map-up f a n)
-
   -- m of i samples, and r of n more, from the one numbered j; and of one more
-  pub marks-more : (a i n j m r : ℕ) (xs : List ℤ) → j ≡ a + i → m ≡ marksIn size (map f (upFrom a i)) → xs ≡ map f (upFrom j n) → r ≡ marksIn size xs → m + r ≡ marksIn size (map f (upFrom a (i + n)))
+  pub marks-more : (a i n j m r : ℕ) (xs : List ℤ) → j ≡ a + i → m ≡ markCountOf size (map f (upFrom a i)) → xs ≡ map f (upFrom j n) → r ≡ markCountOf size xs → m + r ≡ markCountOf size (map f (upFrom a (i + n)))
   marks-more a i n j m r xs e p q h =
-      ap₂ {C = ℕ} (λ x y. x + y) p (h ∙ ap (marksIn size) (q ∙ ap (λ (k : ℕ). map f (upFrom k n)) e))
+      ap₂ {C = ℕ} (λ x y. x + y) p (h ∙ ap (markCountOf size) (q ∙ ap (λ (k : ℕ). map f (upFrom k n)) e))
       ∙ sym (marks-append size (map f (upFrom a i)) (map f (upFrom (a + i) n)))
-      ∙ ap (marksIn size) (sym (map-add f a i n))
+      ∙ ap (markCountOf size) (sym (map-add f a i n))
 
-  pub marks-one : (a i j m r : ℕ) (z : ℤ) → j ≡ a + i → m ≡ marksIn size (map f (upFrom a i)) → z ≡ f j → r ≡ markNumber (atRail size z) → m + r ≡ marksIn size (map f (upFrom a (i + 1)))
-  unfolding upFrom marksIn
+  pub marks-one : (a i j m r : ℕ) (z : ℤ) → j ≡ a + i → m ≡ markCountOf size (map f (upFrom a i)) → z ≡ f j → r ≡ markNumber (atRail size z) → m + r ≡ markCountOf size (map f (upFrom a (i + 1)))
+  unfolding upFrom markCountOf
   marks-one a i j m r z e p q h = marks-more a i 1 j m r (z ∷ []) e p (ap (λ (x : ℤ). x ∷ []) q) (h ∙ sym (add-zero (markNumber (atRail size z))))

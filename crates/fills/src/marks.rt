@@ -2,7 +2,7 @@
 ghost use mathlib.Core.Path.{_≡_};
 ghost use Prim.Native.Nat.{_≤_};
 ghost use lib.ListN.{length};
-ghost use Rattle.rules.specs.Points.{atRail, markNumber, marksIn};
+ghost use Rattle.rules.specs.Points.{atRail, markNumber, markCountOf};
 
 // How many samples were filled, and how many of them stand at the rail.
 pub struct Run {
@@ -25,7 +25,7 @@ pub fn at_rail(sample: i16, size: usize) -> bool
 pub(crate) fn count_marks(samples: &[i16; 64], size: usize) -> usize
     requires { ⌜ (1 ≤ size) × (size ≤ 2) ⌝ }
     requires { ⌜ length (now samples) ≡ 64 ⌝ }
-    ensures { λ r. ⌜ r ≡ marksIn size (now (samples .entry)) ⌝ }
+    ensures { λ r. ⌜ r ≡ markCountOf size (now (samples .entry)) ⌝ }
 {
     let mut n: u16 = 0;
     let mut k = 0;
@@ -36,15 +36,15 @@ pub(crate) fn count_marks(samples: &[i16; 64], size: usize) -> usize
     n as usize
 }
 
-// How many marks one sample of `size` bytes has.
-pub(crate) fn mark_of(sample: i16, size: usize) -> usize
+// 1 where a sample of `size` bytes stands at the rail, and else 0.
+pub(crate) fn count_mark(sample: i16, size: usize) -> usize
     requires { ⌜ (1 ≤ size) × (size ≤ 2) ⌝ }
     ensures { λ r. ⌜ r ≡ markNumber (atRail size sample) ⌝ }
 {
     mark_number(at_rail(sample, size)) as usize
 }
 
-// 1 for a mark, in 16 bits as the samples are: so a vector instruction adds as many marks as it compares samples.
+// 1 for a mark and 0 for none, in 16 bits as the samples are: so a vector instruction adds as many marks as it compares samples.
 pub fn mark_number(mark: bool) -> u16
     ensures { λ r. ⌜ r ≡ markNumber mark ⌝ }
 {

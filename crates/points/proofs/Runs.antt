@@ -1,5 +1,5 @@
--- A walk by the calls that make it: `start`, and then `next` as often as one likes. Each step has the number, the values and the marks of document 01
--- (`walk-answers`), and so have all steps of a run of `next` calls, in order, and done for good behind them (`run-answers`).
+-- A walk by the calls that make it: `start`, and then `next` as often as one likes. Each step has the number and the values of document 01, and the
+-- marks (`walk-answers`), and so have all steps of a run of `next` calls, in order, and done for good behind them (`run-answers`).
 use mathlib.Core.Path.{_≡_, refl, sym, ap, ap₂, _∙_}
 use mathlib.Core.Bool.{Bool, true, false}
 use mathlib.Core.List.{List, [], _∷_, map}

@@ -182,7 +182,7 @@ module _ (s t : List ℕ) (a : Alike s t) where
       first-alike 1 (ap all frame-alike)
       (λ _. first-alike 2 sized-alike (λ e. inner-alike (sized-says s (all-each (sized s) e))))
 
-  -- and where they are accepted each point has the same value and the same time
+  -- and where they are accepted each point has the same value, the same mark and the same time
   module _ (b : Bytes s) (e : refusal s ≡ 0) where
     opened-alike : opened t ≡ (let w = opened s in record { head = mixed; text = w .text; trig = w .trig; ris = w .ris; one = w .one; two = w .two })
     unfolding opened decode waveOf

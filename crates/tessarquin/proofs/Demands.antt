@@ -12,13 +12,13 @@ use lib.ListN.{length, take, drop}
 use Rattle.rules.specs.Numbers.{Bytes, number, allBytes, splice}
 use Rattle.rules.specs.Wave.{points}
 use Rattle.rules.specs.Rules.{first, refusal, opened}
-use Rattle.rules.specs.Points.{value, time, mark, markNumber, pointRefusal}
+use Rattle.rules.specs.Points.{markNumber, pointRefusal}
 use Rattle.rules.specs.Cut.{Setup, step, orElse, count, cutBytes, cutRules, cutRefusal, combined}
 use Rattle.rules.proofs.Tests.{orElse-none}
 use Rattle.rules.proofs.Demands.{CutTaken, KeptPoint, Small, OneCut, cut-says, room-enough, numbers-fit, cut-bytes, demand-3}
 use Rattle.tessarquin.specs.Calls.{leftBy, pointBytes, pointNumber, pointLeft, cutAnswer, cutNumber, cutLeft, cutAnswerLeft}
 use Rattle.tessarquin.proofs.Writing.{front, pair-read}
-use Rattle.tessarquin.proofs.Slices.{three-length, number-enough, own-answered}
+use Rattle.tessarquin.proofs.Slices.{point-length, number-enough, own-answered}
 use Rattle.tessarquin.proofs.Cutting.{answer-length}
 use Rattle.tessarquin.proofs.Learnt.{PointCall, CutCall}
 
@@ -81,13 +81,12 @@ kept-bits s t c x g k f a b u v y z p e q h =
     let j : ℕ = c .fp + step c * k in
     let there = own-answered (pointRefusal t x g k) (pointBytes t x g k) a u y (p .3) e in
     let kp : KeptPoint s t c x g k = f (there .0) in
-    let long : (u : List ℕ) (g k : ℕ) → length (pointBytes u x g k) ≡ 24 = λ u g k. three-length (toBits binary64 (value (opened u) x g k)) (toBits binary64 (time (opened u) g k)) (markNumber (mark (opened u) x g k)) in
-    let zero-too : v ≡ 0 = q .3 .0 ∙ number-enough (pointRefusal s x n j) (pointBytes s x n j) (length b) (omega (arith, long s n j)) ∙ kp .answered in
+    let zero-too : v ≡ 0 = q .3 .0 ∙ number-enough (pointRefusal s x n j) (pointBytes s x n j) (length b) (omega (arith, point-length s x n j)) ∙ kp .answered in
     let here = own-answered (pointRefusal s x n j) (pointBytes s x n j) b v z (q .3) zero-too in (
       zero-too,
-      ap (take 24) (here .1) ∙ front (pointBytes s x n j) b 24 (long s n j)
+      ap (take 24) (here .1) ∙ front (pointBytes s x n j) b 24 (point-length s x n j)
           ∙ (λ i. allBytes 0 8 (toBits binary64 (sym (kp .same-value) i) ∷ toBits binary64 (sym (kp .same-time) i) ∷ markNumber (sym (kp .same-mark) i) ∷ []))
-          ∙ sym (ap (take 24) (there .1) ∙ front (pointBytes t x g k) a 24 (long t g k)),
+          ∙ sym (ap (take 24) (there .1) ∙ front (pointBytes t x g k) a 24 (point-length t x g k)),
     )
 
 -- The one call: it returns 0, leaves the numbers and the block that the second call left, and the same in the whole of the same slices; and where

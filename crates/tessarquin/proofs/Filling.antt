@@ -1,29 +1,29 @@
 -- What a place before a segment's first point says of its samples: they are in the block (`samples-room`), their bits are those of the values
 -- (`bits-are`), and their marks are counted (`marks-are`).
 use mathlib.Core.Path.{_≡_, refl, sym, ap, ap₂, _∙_, subst}
-use mathlib.Core.List.{List, [], _∷_, _++_, map, flatten, map-map}
+use mathlib.Core.List.{List, [], _∷_, _++_, flatten, map-map}
 use Prim.Native.Nat.{ℕ, suc, _+_, _-_, _*_, _≤_, _<_}
 use native.Mathlib.Nat.{suc-mul}
 use native.Mathlib.Omega.{arith}
 use lib.ListN.{length, drop, length-map, length-append}
 use lib.Ieee.{Float, binary32, binary64, ofBits, toBits}
 use Rattle.rules.specs.Numbers.{Bytes, bytes, allBytes, upFrom, splice}
-use Rattle.rules.specs.Wave.{orderOf, sizeOf, points}
+use Rattle.rules.specs.Wave.{points}
 use Rattle.rules.specs.Rules.{refusal, opened}
-use Rattle.rules.specs.Points.{sample, value, marksIn, markCount, walkRefusal}
+use Rattle.rules.specs.Points.{value, markCount, walkRefusal}
 use Rattle.rules.proofs.Numbers.{length-allBytes}
 use Rattle.rules.proofs.Thin.{length-upFrom}
 use Rattle.rules.proofs.Opened.{good-opened, shape-opened}
 use Rattle.scale.specs.Scale.{FiniteValue}
-use Rattle.fills.specs.Fills.{sampleAt, valueAt, bitsAt, marksAt}
+use Rattle.fills.specs.Fills.{valueAt, bitsAt, markCountAt}
 use Rattle.block.specs.Opened.{openedAs}
 use Rattle.points.specs.declared.walk.Place.{Place}
 use Rattle.points.specs.Steps.{Lent}
 use Rattle.points.specs.Walks.{acceptedPlace, placeOf}
 use Rattle.points.proofs.Refusals.{walk-points, walk-accepts}
 use Rattle.points.proofs.Stepping.{single-sound}
-use Rattle.points.proofs.Values.{room, sample-is, value-at}
-use Rattle.points.proofs.Fillings.{map-up}
+use Rattle.points.proofs.Values.{room, value-at}
+use Rattle.points.proofs.Fillings.{map-up, marks-at}
 use Rattle.points.proofs.Walking.{begins}
 use Rattle.tessarquin.specs.Calls.{valueBits, fillBytes}
 
@@ -91,11 +91,8 @@ module _ (s : List ℕ) (b : Bytes s) (a n : ℕ) (p : Place) (e : p ≡ placeOf
       ap₂ {C = List ℕ} (λ x y. x ++ drop y out) (ap (λ (x : ℕ). bitsAt (p .calibration .gain) (p .calibration .offset) (p .order) x s (p .samples) (p .points)) (sym es) ∙ bits) l
 
   -- the number of the marks
-  pub marks-are : (size : ℕ) → p .kind + 1 ≡ size → marksAt (p .order) size s (p .samples) (p .points) ≡ markCount (opened s) a n
-  unfolding marksAt markCount
+  pub marks-are : (size : ℕ) → p .kind + 1 ≡ size → markCountAt (p .order) size s (p .samples) (p .points) ≡ markCount (opened s) a n
   marks-are size es =
-      let q : Place = acceptedPlace s a n 0 in
-      ap (λ (x : ℕ). marksAt (p .order) x s (p .samples) (p .points)) (sym es)
-      ∙ ap (λ (x : Place). marksAt (x .order) (x .kind + 1) s (x .samples) (x .points)) is
-      ∙ ap (marksIn (q .kind + 1)) (map-up (sampleAt (q .order) (q .kind + 1) s (q .samples)) (sample (opened s) a n) 0 (q .points)
-      (λ k g h. sample-is s b (openedAs s) a n k (each k (omega arith))))
+      ap (λ (x : ℕ). markCountAt (p .order) x s (p .samples) (p .points)) (sym es)
+      ∙ ap (λ (x : Place). markCountAt (x .order) (x .kind + 1) s (x .samples) (x .points)) is
+      ∙ marks-at s b (openedAs s) a n (each 0 some)

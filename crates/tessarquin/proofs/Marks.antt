@@ -1,25 +1,23 @@
 -- Where `tessarquin_fill` returned 0, the number behind its M values is how many of the M points have the mark that `tessarquin_point` leaves for them
 -- (`fill-marks`).
 use mathlib.Core.Path.{_≡_, refl, sym, ap, _∙_}
-use mathlib.Core.List.{List, [], _∷_, _++_, map}
-use Prim.Native.Nat.{ℕ, _*_, _^_, _≤_, _<_}
+use mathlib.Core.List.{List, [], _∷_, map}
+use Prim.Native.Nat.{ℕ, _*_, _≤_, _<_}
 use native.Mathlib.Omega.{arith}
 use lib.Ieee.{binary64, toBits}
 use lib.ListN.{length, take, drop}
-use lib.Seq.{take-at}
-use Rattle.rules.specs.Numbers.{Bytes, number, bytes, allBytes, total, upFrom, splice}
+use Rattle.rules.specs.Numbers.{Bytes, number, total, upFrom, splice}
 use Rattle.rules.specs.Wave.{points}
 use Rattle.rules.specs.Rules.{opened}
 use Rattle.rules.specs.Points.{value, time, mark, markNumber, markCount, pointRefusal, walkRefusal}
-use Rattle.rules.proofs.Numbers.{number-bytes, length-bytes}
 use Rattle.rules.proofs.Marks.{mark-le, mark-count-points}
 use Rattle.rules.proofs.Opened.{shape-opened}
 use Rattle.block.specs.Opened.{openedAs}
 use Rattle.points.proofs.Refusals.{walk-accepts, walk-points}
 use Rattle.points.proofs.Fillings.{map-up, marks-small}
 use Rattle.tessarquin.specs.Calls.{pointBytes, pointNumber, pointLeft, valueBits, fillBytes, fillNumber, fillLeft}
-use Rattle.tessarquin.proofs.Writing.{numbers-behind, one-number}
-use Rattle.tessarquin.proofs.Slices.{three-length, number-enough, own-answered}
+use Rattle.tessarquin.proofs.Writing.{last-read}
+use Rattle.tessarquin.proofs.Slices.{point-length, number-enough, own-answered}
 use Rattle.tessarquin.proofs.Filling.{length-values}
 use Rattle.tessarquin.proofs.Learnt.{PointCall, FillCall}
 use Rattle.tessarquin.proofs.Places.{thirdIn}
@@ -28,20 +26,12 @@ use Rattle.tessarquin.proofs.Places.{thirdIn}
 abbrev pub markCountIn : ℕ → List ℕ → ℕ
 markCountIn m left = number 0 (take 8 (drop (m * 8) left))
 
--- a number is read behind others
-last-read : (xs : List ℕ) (y n : ℕ) (slice : List ℕ) → length xs * 8 ≡ n → y < 256 ^ 8 → number 0 (take 8 (drop n (splice slice 0 (allBytes 0 8 (xs ++ (y ∷ [])))))) ≡ y
-last-read xs y n slice e h =
-    let rest : List ℕ = drop (length (xs ++ (y ∷ [])) * 8) slice in
-    ap (λ (l : List ℕ). number 0 (take 8 l)) (numbers-behind xs (y ∷ []) slice n e ∙ ap (λ (l : List ℕ). l ++ rest) (sym (one-number y)))
-    ∙ ap (number 0) (take-at (bytes 0 8 y) rest 8 (length-bytes 0 8 y)) ∙ number-bytes 0 8 y h
-
 -- a point's mark, where `tessarquin_point` is lent room for its three numbers
 module _ (s : List ℕ) (a n k : ℕ) (e : pointRefusal s a n k ≡ 0) (answer : List ℕ) (m : ℕ) (left : List ℕ) (call : PointCall s a n k answer m left) (h : 24 ≤ length answer) where
   point-returns : m ≡ 0
   unfolding pointNumber
   point-returns =
-      let long : length (pointBytes s a n k) ≡ 24 = three-length (toBits binary64 (value (opened s) a n k)) (toBits binary64 (time (opened s) n k)) (markNumber (mark (opened s) a n k)) in
-      call .3 .0 ∙ number-enough (pointRefusal s a n k) (pointBytes s a n k) (length answer) (omega (arith, long)) ∙ e
+      call .3 .0 ∙ number-enough (pointRefusal s a n k) (pointBytes s a n k) (length answer) (omega (arith, point-length s a n k)) ∙ e
 
   mark-read : thirdIn left ≡ markNumber (mark (opened s) a n k)
   unfolding pointNumber pointLeft

@@ -6,11 +6,13 @@ use mathlib.Core.List.{List, [], _∷_, _++_}
 use Prim.Native.Nat.{ℕ, zero, suc, _+_, _-_, _*_, _≤_, _<_}
 use native.Mathlib.Omega.{arith}
 use lib.Dec.{leb}
+use lib.Ieee.{binary64, toBits}
 use lib.ListN.{length}
 use borrow.Author.Tests.{le-leb, lt-leb}
 use Rattle.rules.specs.Numbers.{startsFrom, allBytes, splice}
 use Rattle.rules.specs.Wave.{orderOf, segments, points, firstPoint, sparsing, segmentIndex, subarrayCount, lengthsOf, startsOf}
 use Rattle.rules.specs.Rules.{payloadStart, opened}
+use Rattle.rules.specs.Points.{value, time, mark, markNumber}
 use Rattle.rules.specs.Cut.{orElse}
 use Rattle.rules.proofs.Numbers.{length-allBytes}
 use Rattle.rules.proofs.Tests.{orElse-none}
@@ -18,7 +20,7 @@ use Rattle.block.specs.Opened.{arraysOf}
 use Rattle.block.specs.declared.Span.{Span}
 use Rattle.block.specs.Texts.{Stands, traceLabel, upToZero, orOther}
 use Rattle.block.proofs.Parts.{span-length, span-none, span-some}
-use Rattle.tessarquin.specs.Calls.{orRoom, leftBy, openBytes, layoutBytes, labelBytes}
+use Rattle.tessarquin.specs.Calls.{orRoom, leftBy, openBytes, pointBytes, layoutBytes, labelBytes}
 
 -- ---- how long the answers are
 
@@ -28,8 +30,9 @@ open-length s = let h : ℕ → ℕ = opened s .head in length-allBytes 0 8 (seg
 pub pair-length : (x y : ℕ) → length (allBytes 0 8 (x ∷ y ∷ [])) ≡ 16
 pair-length x y = length-allBytes 0 8 (x ∷ y ∷ [])
 
-pub three-length : (x y z : ℕ) → length (allBytes 0 8 (x ∷ y ∷ z ∷ [])) ≡ 24
-three-length x y z = length-allBytes 0 8 (x ∷ y ∷ z ∷ [])
+pub point-length : (s : List ℕ) (a n k : ℕ) → length (pointBytes s a n k) ≡ 24
+point-length s a n k =
+    length-allBytes 0 8 (toBits binary64 (value (opened s) a n k) ∷ toBits binary64 (time (opened s) n k) ∷ markNumber (mark (opened s) a n k) ∷ [])
 
 pub layout-length : (s : List ℕ) → length (layoutBytes s) ≡ 200
 unfolding startsOf startsFrom

@@ -7,7 +7,7 @@ use native.Mathlib.Omega.{arith}
 use lib.ListN.{length, take, drop, getD}
 use lib.Seq.{take-at, drop-at, take-suc, drop-drop, length-take-le}
 use Rattle.rules.specs.Numbers.{Below, number, bytes, pieces, numbers, allBytes, splice}
-use Rattle.rules.proofs.Numbers.{numbers-allBytes, length-allBytes}
+use Rattle.rules.proofs.Numbers.{number-bytes, numbers-allBytes, length-bytes, length-allBytes}
 use Rattle.rules.proofs.Slices.{numbers-take}
 use Rattle.copies.proofs.Laws.{then}
 
@@ -64,6 +64,13 @@ module _ (xs ys slice : List ℕ) where
 
   pub numbers-behind : (n : ℕ) → length xs * 8 ≡ n → drop n (splice slice 0 (allBytes 0 8 (xs ++ ys))) ≡ allBytes 0 8 ys ++ drop (length (xs ++ ys) * 8) slice
   numbers-behind n e = ap (drop n) apart ∙ drop-at (allBytes 0 8 xs) (allBytes 0 8 ys ++ drop (length (xs ++ ys) * 8) slice) n (length-allBytes 0 8 xs ∙ e)
+
+-- the last of them
+pub last-read : (xs : List ℕ) (y n : ℕ) (slice : List ℕ) → length xs * 8 ≡ n → y < 256 ^ 8 → number 0 (take 8 (drop n (splice slice 0 (allBytes 0 8 (xs ++ (y ∷ [])))))) ≡ y
+last-read xs y n slice e h =
+    let rest : List ℕ = drop (length (xs ++ (y ∷ [])) * 8) slice in
+    ap (λ (l : List ℕ). number 0 (take 8 l)) (numbers-behind xs (y ∷ []) slice n e ∙ ap (λ (l : List ℕ). l ++ rest) (sym (one-number y)))
+    ∙ ap (number 0) (take-at (bytes 0 8 y) rest 8 (length-bytes 0 8 y)) ∙ number-bytes 0 8 y h
 
 -- two of them, and three
 pub pair-read : (x y : ℕ) (slice : List ℕ) → Below (256 ^ 8) (x ∷ y ∷ [])

@@ -64,8 +64,8 @@ done
 
 { $run "$programs/made" 1 0 1 16776870 0; echo; } >"$folder/longest"
 expect 0 'block            16,777,228 bytes' show "$folder/longest"
-[ "$(tail -n 2 "$folder/out")" = 'array 1          least -64.25 (point 165), greatest 63.25 (point 238), mean -0.499971
-at the rail      array 1: 131,069 of 16,776,870 samples; the true value may be beyond, and a peak or a rise time there means nothing' ] || wrong "the longest block: $(tail -n 2 "$folder/out")"
+[ "$(tail -n 2 "$folder/out")" = 'array 1          least -64.25 (point 165, at the rail), greatest 63.25 (point 238, at the rail), mean -0.499971
+at the rail      array 1: 131,069 of 16,776,870 samples; these may be clipped: a peak, a mean or a rise time with them means nothing' ] || wrong "the longest block: $(tail -n 2 "$folder/out")"
 [ "$($run "$programs/first" <"$folder/longest")" = '-1.75 V at -1 s' ] || wrong 'the first program refuses the longest block'
 [ "$($run "$programs/first" <"$example")" = '-1.75 V at -1 s' ] || wrong 'the first program refuses the example'
 echo >>"$folder/longest"

@@ -7,7 +7,7 @@ at_rail() { grep '^at the rail' "$folder/out" | sed 's/^at the rail  *//'; }
 warns() { [ "$(at_rail)" = "$2" ] || wrong "show: $1: $(at_rail); not $2"; }
 
 # how an array's first line ends
-means='; the true value may be beyond, and a peak or a rise time there means nothing'
+means='; these may be clipped: a peak, a mean or a rise time with them means nothing'
 
 # counted FILE ARRAY: the lines that the marks which `trace points` prints come to
 counted() {
@@ -23,7 +23,7 @@ counted() {
                 exit
             printf "array %d: %d of %d samples in %d of %d segments%s\n%s", array, all, NR, segments, n - 1, means, lines
             if (segments > 10)
-                printf "array %d, %d more segment%s: %d of %d samples\n", array, segments - 10, (segments > 11 ? "s" : ""), rest, (segments - 10) * points[1]
+                printf "array %d, in %d more segment%s: %d of %d samples\n", array, segments - 10, (segments > 11 ? "s" : ""), rest, (segments - 10) * points[1]
         }'
 }
 
@@ -101,7 +101,7 @@ array 1, segment 14: 1 of 3 samples"
         grep -A 1 '^array 2 ' "$folder/out" | grep -q "^at the rail      array 2: $((segments + 1)) of 42 samples in $segments of 14 segments;" || wrong 'show: the warning stands elsewhere than behind array 2'
     done
     grep -qx 'array 2, segment 1: 2 of 3 samples' <(at_rail) || wrong "show: $(at_rail)"
-    grep -qx 'array 2, 4 more segments: 4 of 12 samples' <(at_rail) || wrong "show: $(at_rail)"
+    grep -qx 'array 2, in 4 more segments: 4 of 12 samples' <(at_rail) || wrong "show: $(at_rail)"
 
     # a cut keeps the marks, in either order: every second point from the second on of the second segment, and of all
     for sn in 0 2; do
@@ -121,7 +121,7 @@ $run "$programs/made" 1 0 4000 50 1 >"$folder/sequence"
 asked show "$folder/sequence"
 [ "$(at_rail | wc -l)" = 12 ] || wrong "show: $(at_rail | wc -l) lines for 4,000 segments"
 [ "$(at_rail | sed -n '1p;$p')" = "array 1: 1,562 of 200,000 samples in 1,562 of 4,000 segments$means
-array 1, 1,552 more segments: 1,552 of 77,600 samples" ] || wrong "show: $(at_rail | sed -n '1p;$p')"
+array 1, in 1,552 more segments: 1,552 of 77,600 samples" ] || wrong "show: $(at_rail | sed -n '1p;$p')"
 
 # README's first program says it of the point it prints
 patched "$example" 346 '\200'

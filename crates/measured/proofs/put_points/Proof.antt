@@ -9,10 +9,11 @@ use lib.ListN.{length, length-set}
 use Rattle.rules.specs.Numbers.{Bytes, upFrom}
 use Rattle.rules.specs.Wave.{Wave, sizeOf, points}
 use Rattle.rules.specs.Rules.{opened}
-use Rattle.rules.specs.Points.{sample, value, mark, markNumber, marksIn, markCount}
+use Rattle.rules.specs.Points.{sample, value, mark, markNumber, markCountOf, markCount}
 use Rattle.rules.proofs.Numbers.{below-index}
 use Rattle.fills.specs.Fills.{over}
-use Rattle.fills.proofs.Marking.{marks-few, marks-one}
+use Rattle.rules.proofs.Marks.{marks-few}
+use Rattle.fills.proofs.Marking.{marks-one}
 use Rattle.fills.proofs.Writes.{over-none, map-one}
 use Rattle.points.specs.Walks.{afterOf, placeAfter}
 use Rattle.measured.proofs.Walked.{all-written, points-are, handed, stopped}
@@ -26,7 +27,7 @@ Inv-loop block array segment out₀ place₀ marks₀ k₀ out place marks k =
     × (place ≡ placeAfter block array segment k)
     × (length out ≡ length out₀)
     × (out ≡ over out₀ 0 (map (value (opened block) array segment) (upFrom 0 k)))
-    × (marks ≡ marksIn (sizeOf (opened block .head)) (map (sample (opened block) array segment) (upFrom 0 k)))
+    × (marks ≡ markCountOf (sizeOf (opened block .head)) (map (sample (opened block) array segment) (upFrom 0 k)))
 
 abbrev μ-loop : tie.MeasureT-loop
 μ-loop block array segment out₀ place₀ marks₀ k₀ out place marks k = points (opened block .head) - k
@@ -62,7 +63,7 @@ module _ (c : tie.After-value Inv-loop μ-loop) where
   within = omega (arith, next .0, room start, loop .loop .inv .2)
 
 loop-holds : tie.Need-loop-holds Inv-loop μ-loop
-unfolding upFrom marksIn
+unfolding upFrom markCountOf
 loop-holds c = let a = c .before .before .args in (omega arith, c .before .before .pre .0, refl, over-none (a .out .now) 0, refl)
 
 step-at-requires : tie.Need-step-at-requires Inv-loop μ-loop
@@ -88,7 +89,7 @@ one : (c : tie.After-mark-number Inv-loop μ-loop)
     → (let h = c .before .before in
     let a = start h .args in
     let w : Wave = opened (a .block .now) in
-    loop h .loop .marks + c .mark-number .result ≡ marksIn (sizeOf (w .head)) (map (sample w (a .array) (a .segment)) (upFrom 0 (loop h .loop .k + 1))))
+    loop h .loop .marks + c .mark-number .result ≡ markCountOf (sizeOf (w .head)) (map (sample w (a .array) (a .segment)) (upFrom 0 (loop h .loop .k + 1))))
 unfolding mark
 one c =
     let h = c .before .before in
@@ -146,7 +147,7 @@ returns c =
     let f : ℕ → Float = value w (a .array) (a .segment) in
     let q = stopped (a .block .now) (a .array) (a .segment) (bytes (c .before .before .before .before .before)) (x .pre .1 .0) (l .k) (l .inv .0) (l .place) (l .inv .1) (r .result) (r .ensures) (c .enum-told .given .1) in
     let e : l .k ≡ a .first .points = omega (arith, q, points-are (a .block .now) (a .array) (a .segment) (a .first) (x .pre .0) (x .pre .1 .0)) in
-    (all-written f (a .out .now) (l .out) (l .k) (a .first .points) e (l .inv .3), l .inv .4 ∙ ap (λ (k : ℕ). marksIn (sizeOf (w .head)) (map (sample w (a .array) (a .segment)) (upFrom 0 k))) q)
+    (all-written f (a .out .now) (l .out) (l .k) (a .first .points) e (l .inv .3), l .inv .4 ∙ ap (λ (k : ℕ). markCountOf (sizeOf (w .head)) (map (sample w (a .array) (a .segment)) (upFrom 0 k))) q)
 
 pub put-points-spec : {M : Type 1} → statement M
 put-points-spec =

@@ -5,17 +5,15 @@ use mathlib.Core.List.{List, [], _∷_}
 use Prim.Native.Nat.{ℕ}
 use native.Mathlib.Omega.{arith}
 use lib.Dec.{T}
-use lib.ListN.{length}
 use lib.Ieee.{binary64, isNan, toBits}
 use Rattle.rules.specs.Numbers.{Bytes, allBytes, splice}
-use Rattle.rules.specs.Rules.{opened}
-use Rattle.rules.specs.Points.{value, time, mark, markNumber, pointRefusal}
+use Rattle.rules.specs.Points.{markNumber, pointRefusal}
 use Rattle.rules.proofs.Numbers.{below-index}
 use Rattle.scale.proofs.Finite.{near-no-nan}
 use Rattle.points.specs.declared.answers.Point.{Point}
 use Rattle.points.proofs.Bounds.{point-number, point-answer, answer-near}
 use Rattle.tessarquin.specs.Calls.{pointBytes, pointNumber, pointLeft}
-use Rattle.tessarquin.proofs.Slices.{three-length, own-refused, own-short, own-left}
+use Rattle.tessarquin.proofs.Slices.{point-length, own-refused, own-short, own-left}
 use borrow.Author.Needs.{needs}
 use Rattle.tessarquin.proofs.tessarquin_point.Statement.{statement}
 use Rattle.tessarquin.proofs.tessarquin_point.Tie as tie
@@ -35,10 +33,6 @@ clean c =
     let q = answer-near (a .block .now) (a .array) (a .segment) (a .point) (bytes (c .before .before .before .before)) (sym (ap (λ (x : Point). x .refusal) e) ∙ c .if1 .left) in
     subst (λ (x : Point). T (not (isNan (x .value))) × T (not (isNan (x .time)))) (sym e) (near-no-nan (q .0), near-no-nan (q .1))
 
--- its answer has three numbers
-long : (s : List ℕ) (a n k : ℕ) → length (pointBytes s a n k) ≡ 24
-long s a n k = three-length (toBits binary64 (value (opened s) a n k)) (toBits binary64 (time (opened s) n k)) (markNumber (mark (opened s) a n k))
-
 point-requires : tie.Need-point-requires
 point-requires c κs = search needs
 
@@ -52,7 +46,7 @@ returns-2 : tie.Need-returns-2
 unfolding pointNumber pointLeft
 returns-2 c =
     let a = c .before .before .before .before .before .before .args in
-    own-short (pointRefusal (a .block .now) (a .array) (a .segment) (a .point)) (pointBytes (a .block .now) (a .array) (a .segment) (a .point)) (a .answer .now) (sym (number (c .before .before .before)) ∙ c .before .if1 .left) (omega (arith, c .if2 .taken, long (a .block .now) (a .array) (a .segment) (a .point)))
+    own-short (pointRefusal (a .block .now) (a .array) (a .segment) (a .point)) (pointBytes (a .block .now) (a .array) (a .segment) (a .point)) (a .answer .now) (sym (number (c .before .before .before)) ∙ c .before .if1 .left) (omega (arith, c .if2 .taken, point-length (a .block .now) (a .array) (a .segment) (a .point)))
 
 mark-number-requires : tie.Need-mark-number-requires
 mark-number-requires c κs = search needs
@@ -78,7 +72,7 @@ returns-3 c =
     let a = c .before .before .before .before .before .before .before .before .before .before .before .before .before .args in
     let p = c .before .before .before .before .before .before .before .before .before .before .point in
     let z : pointRefusal (a .block .now) (a .array) (a .segment) (a .point) ≡ 0 = sym (number (c .before .before .before .before .before .before .before .before .before .before)) ∙ c .before .before .before .before .before .before .before .before .if1 .left in
-    let r = own-left (pointRefusal (a .block .now) (a .array) (a .segment) (a .point)) (pointBytes (a .block .now) (a .array) (a .segment) (a .point)) (a .answer .now) z (omega (arith, c .before .before .before .before .before .before .before .if2 .left, long (a .block .now) (a .array) (a .segment) (a .point))) in
+    let r = own-left (pointRefusal (a .block .now) (a .array) (a .segment) (a .point)) (pointBytes (a .block .now) (a .array) (a .segment) (a .point)) (a .answer .now) z (omega (arith, c .before .before .before .before .before .before .before .if2 .left, point-length (a .block .now) (a .array) (a .segment) (a .point))) in
     let e = p .ensures ∙ point-answer (a .block .now) (a .array) (a .segment) (a .point) z in
     let value = c .before .before .before .before .before .bits .ensures in
     let time = c .before .before .before .before .bits2 .ensures in

@@ -1,7 +1,6 @@
 -- A point's value and time are the first two numbers, and its mark the first byte; a walk that is done hands out nothing.
 use mathlib.Core.Path.{sym, ap, _∙_}
-use mathlib.Core.List.{List, [], map}
-use Prim.Native.Nat.{ℕ}
+use mathlib.Core.List.{[], map}
 use native.Mathlib.Omega.{arith}
 use lib.ListN.{length}
 use Rattle.rules.specs.Points.{markNumber}

@@ -8,20 +8,20 @@ use lib.Seq.{take-length}
 use mir.Syntax.{w16}
 use mir.ValLaws.{toZ-ofZ}
 use borrow.Author.Needs.{needs}
-use Rattle.rules.specs.Points.{atRail, markNumber, marksIn}
+use Rattle.rules.specs.Points.{atRail, markNumber, markCountOf}
 use Rattle.rules.proofs.Marks.{mark-le}
 use Rattle.fills.proofs.Marking.{marks-next}
 use Rattle.fills.proofs.marks.count_marks.Statement.{statement}
 use Rattle.fills.proofs.marks.count_marks.Tie as tie
 
 abbrev Inv-loop : tie.InvT-loop
-Inv-loop samples size n₀ k₀ n k = (k ≤ 64) × (n ≤ k) × (n ≡ marksIn size (take k samples))
+Inv-loop samples size n₀ k₀ n k = (k ≤ 64) × (n ≤ k) × (n ≡ markCountOf size (take k samples))
 
 abbrev μ-loop : tie.MeasureT-loop
 μ-loop samples size n₀ k₀ n k = 64 - k
 
 loop-holds : tie.Need-loop-holds Inv-loop μ-loop
-unfolding marksIn
+unfolding markCountOf
 loop-holds c = (omega arith, omega arith, refl)
 
 mul-at-rail : tie.Need-mul-at-rail Inv-loop μ-loop
@@ -66,7 +66,7 @@ returns c =
     let a = c .before .before .args in
     let l = c .before .loop in
     let e : l .k ≡ length (a .samples .now) = omega (arith, c .before .before .pre .1) in
-    l .inv .2 ∙ ap (marksIn (a .size)) (ap (λ (k : ℕ). take k (a .samples .now)) e ∙ take-length (a .samples .now))
+    l .inv .2 ∙ ap (markCountOf (a .size)) (ap (λ (k : ℕ). take k (a .samples .now)) e ∙ take-length (a .samples .now))
 
 pub count-marks-spec : {M : Type 1} → statement M
 count-marks-spec =

@@ -1,6 +1,5 @@
 -- The value and the mark of the sample that is read.
 use mathlib.Core.Path.{_≡_, ap, _∙_}
-use lib.IntN.{ℤ}
 use Rattle.rules.specs.Points.{valueOf, atRail}
 use Prim.Native.Nat.{_+_}
 use mir.Syntax.{w16}

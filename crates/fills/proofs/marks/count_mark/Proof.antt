@@ -4,8 +4,8 @@ use mir.Syntax.{w16}
 use mir.ValLaws.{toZ-ofZ}
 use borrow.Author.Needs.{needs}
 use Rattle.rules.specs.Points.{atRail, markNumber}
-use Rattle.fills.proofs.marks.mark_of.Statement.{statement}
-use Rattle.fills.proofs.marks.mark_of.Tie as tie
+use Rattle.fills.proofs.marks.count_mark.Statement.{statement}
+use Rattle.fills.proofs.marks.count_mark.Tie as tie
 
 at-rail-requires : tie.Need-at-rail-requires
 at-rail-requires c κs = search needs
@@ -21,5 +21,5 @@ returns c =
     let s = c .before .before in
     c .mark-number .ensures ∙ ap markNumber (c .before .at-rail .ensures ∙ ap (atRail (s .args .size)) (toZ-ofZ w16 (s .args .sample) (s .fits .sample)))
 
-pub mark-of-spec : {M : Type 1} → statement M
-mark-of-spec = tie.close (tie.spec at-rail-requires mark-number-requires cast-result returns)
+pub count-mark-spec : {M : Type 1} → statement M
+count-mark-spec = tie.close (tie.spec at-rail-requires mark-number-requires cast-result returns)
