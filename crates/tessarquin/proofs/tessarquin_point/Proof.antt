@@ -55,10 +55,10 @@ cast-mark : tie.Need-cast-mark
 cast-mark c = search needs
 
 bits-requires : tie.Need-bits-requires
-bits-requires c κs = search (needs, clean (c .before .before) .0)
+bits-requires c κs = search (needs, clean (c .before .before) .0, clean (c .before .before) .1)
 
 bits-requires-2 : tie.Need-bits-requires-2
-bits-requires-2 c κs = search (needs, clean (c .before .before .before) .1)
+bits-requires-2 c κs = search (needs, clean (c .before .before .before) .0, clean (c .before .before .before) .1)
 
 put-three-requires : tie.Need-put-three-requires
 put-three-requires c κs = search needs
