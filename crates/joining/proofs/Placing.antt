@@ -1,0 +1,203 @@
+-- For the writer: the joined payload is the first part's descriptor with its fields changed, the user text, and the parts' own bytes by index (`payload-joined`); and rows written each at its
+-- part's index, in the order in which the parts came, stand by index at the end (`scattered-all`).
+use mathlib.Core.Path.{_≡_, refl, sym, ap, ap₂, _∙_}
+use Prim.Native.Nat.{ℕ, zero, suc, _+_, _-_, _*_, _≤_, _<_}
+use native.Mathlib.Nat.{suc-mul}
+use native.Mathlib.Omega.{arith}
+use mathlib.Core.Bool.{Bool, true, false}
+use mathlib.Core.List.{List, [], _∷_, _++_, map, flatten, map-map, append-assoc, append-nil, head-eq-of-cons-eq, tail-eq-of-cons-eq}
+use lib.ListN.{length, getD, take, drop, set, length-set, length-map, List·getD-map}
+use lib.Seq.{ext-getD, drop-at, take-append-add, drop-append-add, getD-set-same, getD-set-other}
+use lib.Dec.{eqb}
+use borrow.Author.Tests.{eqb-true, eqb-false}
+use Rattle.rules.specs.Numbers.{Bytes, allBytes, bytes, upFrom, splice}
+use Rattle.rules.specs.Template.{template, laid}
+use Rattle.rules.specs.Wave.{Wave, orderOf, sizeOf, parts, waveOf, decode, written, encode}
+use Rattle.rules.specs.Rules.{payload, refusal, opened}
+use Rattle.rules.proofs.Rows.{Rows}
+use Rattle.rules.proofs.Waves.{written-decode}
+use Rattle.rules.proofs.Opened.{ruled-opened}
+use Rattle.joining.specs.Join.{indexOf, indexed, partAt, byIndex, joined}
+use Rattle.joining.proofs.Lists.{Every, every-map, every-mapped, Every-upFrom, flatten-append}
+use Rattle.joining.proofs.Index.{Once, Within, every-at-index, indexed-own, indexed-other, within, length-byIndex, byIndex-at}
+use Rattle.joining.proofs.Says.{Together}
+use Rattle.joining.proofs.Joined.{lead, size-alike}
+use Rattle.joining.proofs.Reading.{wavesOf, wave-at, part-of}
+use Rattle.joining.proofs.Segments.{rows-count}
+
+-- ---- each row at its index
+
+module _ {A : Type 0} (f : List ℕ → A) where
+  -- rows with those of some parts written over them, one after another
+  unfoldable pub scattered : List (List ℕ) → List A → List A
+  scattered [] rows = rows
+  scattered (p ∷ ps) rows = scattered ps (set rows (indexOf p - 1) (f p))
+
+  pub scattered-append : (ps qs : List (List ℕ)) (rows : List A) → scattered (ps ++ qs) rows ≡ scattered qs (scattered ps rows)
+  unfolding scattered
+  scattered-append [] qs rows = refl
+  scattered-append (p ∷ ps) qs rows = scattered-append ps qs (set rows (indexOf p - 1) (f p))
+
+  length-scattered : (ps : List (List ℕ)) (rows : List A) → length (scattered ps rows) ≡ length rows
+  unfolding scattered
+  length-scattered [] rows = refl
+  length-scattered (p ∷ ps) rows = length-scattered ps (set rows (indexOf p - 1) (f p)) ∙ length-set rows (indexOf p - 1) (f p)
+
+  -- a row whose index no part has stays
+  row-kept : (ps : List (List ℕ)) (rows : List A) (j : ℕ) (d : A) → Every (λ p. 1 ≤ indexOf p) ps → length (indexed (suc j) ps) ≡ 0 → getD (scattered ps rows) j d ≡ getD rows j d
+  unfolding scattered
+  row-kept [] rows j d h l = refl
+  row-kept (p ∷ ps) rows j d h l = go (eqb (indexOf p) (suc j)) refl (row-kept ps (set rows (indexOf p - 1) (f p)) j d (h .1))
+    where
+      go : (t : Bool) → eqb (indexOf p) (suc j) ≡ t → (length (indexed (suc j) ps) ≡ 0 → getD (scattered ps (set rows (indexOf p - 1) (f p))) j d ≡ getD (set rows (indexOf p - 1) (f p)) j d)
+          → getD (scattered ps (set rows (indexOf p - 1) (f p))) j d ≡ getD rows j d
+      go true e ih = absurd (omega (arith, l, ap length (indexed-own (suc j) p ps (eqb-true (indexOf p) (suc j) e))))
+      go false e ih =
+          let n : indexOf p ≡ suc j → ⊥ = eqb-false (indexOf p) (suc j) e in
+          ih (sym (ap length (indexed-other (suc j) p ps n)) ∙ l) ∙ getD-set-other rows (indexOf p - 1) j (f p) d (λ q. n (omega (arith, h .0)))
+
+  -- and one that a part has is that part's
+  row-placed : (ps : List (List ℕ)) (rows : List A) (j : ℕ) (d : A) → Every (λ p. 1 ≤ indexOf p) ps → j < length rows → length (indexed (suc j) ps) ≡ 1 → getD (scattered ps rows) j d ≡ f (partAt (suc j) ps)
+  unfolding scattered partAt
+  row-placed [] rows j d h m l = absurd (unfold indexed in omega arith)
+  row-placed (p ∷ ps) rows j d h m l =
+      go (eqb (indexOf p) (suc j)) refl (row-kept ps (set rows (indexOf p - 1) (f p)) j d (h .1)) (row-placed ps (set rows (indexOf p - 1) (f p)) j d (h .1) (omega (arith, length-set rows (indexOf p - 1) (f p))))
+    where
+      go : (t : Bool) → eqb (indexOf p) (suc j) ≡ t
+          → (length (indexed (suc j) ps) ≡ 0 → getD (scattered ps (set rows (indexOf p - 1) (f p))) j d ≡ getD (set rows (indexOf p - 1) (f p)) j d)
+          → (length (indexed (suc j) ps) ≡ 1 → getD (scattered ps (set rows (indexOf p - 1) (f p))) j d ≡ f (getD (indexed (suc j) ps) 0 []))
+          → getD (scattered ps (set rows (indexOf p - 1) (f p))) j d ≡ f (getD (indexed (suc j) (p ∷ ps)) 0 [])
+      go true e kept ih =
+          let q : indexOf p ≡ suc j = eqb-true (indexOf p) (suc j) e in
+          let r : indexed (suc j) (p ∷ ps) ≡ p ∷ indexed (suc j) ps = indexed-own (suc j) p ps q in
+          let i : indexOf p - 1 ≡ j = omega arith in
+          kept (omega (arith, l, ap length r)) ∙ ap (λ (n : ℕ). getD (set rows n (f p)) j d) i ∙ getD-set-same rows j (f p) d m ∙ sym (ap (λ (qs : List (List ℕ)). f (getD qs 0 [])) r)
+      go false e kept ih =
+          let r : indexed (suc j) (p ∷ ps) ≡ indexed (suc j) ps = indexed-other (suc j) p ps (eqb-false (indexOf p) (suc j) e) in
+          ih (sym (ap length r) ∙ l) ∙ sym (ap (λ (qs : List (List ℕ)). f (getD qs 0 [])) r)
+
+  pub scattered-all : (ps : List (List ℕ)) (rows : List A) → Once 1 (length ps) ps → length rows ≡ length ps → scattered ps rows ≡ map f (byIndex ps)
+  scattered-all ps rows once n =
+      let same : length (scattered ps rows) ≡ length (map f (byIndex ps)) = length-scattered ps rows ∙ n ∙ sym (length-map (byIndex ps) f ∙ length-byIndex ps) in
+      ext-getD (f []) (scattered ps rows) (map f (byIndex ps)) same (λ j l.
+      let m : j < length rows = omega (arith, length-scattered ps rows) in
+      row-placed ps rows j (f []) (every-map (λ p w. w .0) ps (within ps once)) m (once (suc j) (omega arith) (omega arith))
+      ∙ sym (List·getD-map f (byIndex ps) j [] ∙ ap f (byIndex-at ps j (omega arith))))
+
+-- a row of k written at its place among rows of k
+pub place-row : (n k i : ℕ) (rows : List (List ℕ)) (r : List ℕ) → Rows n k rows → i < n → length r ≡ k → splice (flatten rows) (i * k) r ≡ flatten (set rows i r)
+unfolding flatten
+place-row n k i [] r e h l = absurd (omega (arith, rows-count n k [] e))
+place-row zero k i (x ∷ rows) r e h l = absurd (omega arith)
+place-row (suc n) k zero (x ∷ rows) r e h l =
+    let z : 0 * k ≡ 0 = omega arith in
+    let m : 0 + length r ≡ length x = omega (arith, head-eq-of-cons-eq e) in
+    ap (λ (j : ℕ). splice (x ++ flatten rows) j r) z ∙ ap {B = List ℕ} (λ y. r ++ y) (drop-at x (flatten rows) (0 + length r) (sym m))
+place-row (suc n) k (suc i) (x ∷ rows) r e h l =
+    let m : length x ≡ k = head-eq-of-cons-eq e in
+    let z : suc i * k ≡ length x + i * k = omega (arith, suc-mul i k) in
+    ap (λ (j : ℕ). splice (x ++ flatten rows) j r) z ∙ behind x (flatten rows) (i * k) r ∙ ap {B = List ℕ} (λ y. x ++ y) (place-row n k i rows r (tail-eq-of-cons-eq e) (omega arith) l)
+  where
+    behind : (xs ys : List ℕ) (j : ℕ) (zs : List ℕ) → splice (xs ++ ys) (length xs + j) zs ≡ xs ++ splice ys j zs
+    behind xs ys j zs =
+        let a : length xs + j + length zs ≡ length xs + (j + length zs) = omega arith in
+        ap₂ {C = List ℕ} (λ u v. u ++ zs ++ v) (take-append-add xs ys j) (ap (λ (m : ℕ). drop m (xs ++ ys)) a ∙ drop-append-add xs ys (j + length zs))
+        ∙ ap (λ (u : List ℕ). u ++ drop (j + length zs) ys) (append-assoc xs (take j ys) zs) ∙ append-assoc xs (take j ys ++ zs) (drop (j + length zs) ys)
+
+-- ---- the bytes that the parts give
+
+-- what a block holds of the j-th of the ten lengths
+abbrev pub stretch : ℕ → List ℕ → List ℕ
+stretch j p = getD (parts (opened p .head) (payload p)) j []
+
+module _ (p : List ℕ) (b : Bytes p) (e : refusal p ≡ 0) where
+  stretches : (j : ℕ) → getD (written (opened p)) j [] ≡ stretch j p
+  unfolding opened decode waveOf
+  stretches j = ap (λ (ps : List (List ℕ)). getD ps j []) (written-decode (payload p) (ruled-opened p b e))
+
+  trig-stretch : allBytes (orderOf (opened p .head)) 8 (flatten (opened p .trig)) ≡ stretch 3 p
+  unfolding written
+  trig-stretch = stretches 3
+
+  ris-stretch : allBytes (orderOf (opened p .head)) 8 (opened p .ris) ≡ stretch 4 p
+  unfolding written
+  ris-stretch = stretches 4
+
+  one-stretch : allBytes (orderOf (opened p .head)) (sizeOf (opened p .head)) (flatten (opened p .one)) ≡ stretch 6 p
+  unfolding written
+  one-stretch = stretches 6
+
+  two-stretch : allBytes (orderOf (opened p .head)) (sizeOf (opened p .head)) (flatten (opened p .two)) ≡ stretch 7 p
+  unfolding written
+  two-stretch = stretches 7
+
+-- the bytes of tables laid one after another
+bytes-append : (o w : ℕ) (xs ys : List ℕ) → allBytes o w (xs ++ ys) ≡ allBytes o w xs ++ allBytes o w ys
+unfolding flatten
+bytes-append o w [] ys = refl
+bytes-append o w (x ∷ xs) ys = ap {B = List ℕ} (λ r. bytes o w x ++ r) (bytes-append o w xs ys) ∙ sym (append-assoc (bytes o w x) (allBytes o w xs) (allBytes o w ys))
+
+bytes-tables : (o w : ℕ) (f : Wave → List (List ℕ)) (ws : List Wave) → allBytes o w (flatten (flatten (map f ws))) ≡ flatten (map (λ v. allBytes o w (flatten (f v))) ws)
+unfolding flatten
+bytes-tables o w f [] = refl
+bytes-tables o w f (v ∷ ws) =
+    ap (allBytes o w) (flatten-append (f v) (flatten (map f ws))) ∙ bytes-append o w (flatten (f v)) (flatten (flatten (map f ws)))
+    ∙ ap {B = List ℕ} (λ r. allBytes o w (flatten (f v)) ++ r) (bytes-tables o w f ws)
+
+map-every : {A B : Type 0} (f g : A → B) (xs : List A) → Every (λ x. f x ≡ g x) xs → map f xs ≡ map g xs
+map-every f g [] h = refl
+map-every {B = B} f g (x ∷ xs) h = ap₂ {C = List B} (λ y ys. y ∷ ys) (h .0) (map-every f g xs (h .1))
+
+module _ (ps : List (List ℕ)) (b : Every Bytes ps) (j : Together ps) where
+  -- a table's bytes are the parts' own
+  own-bytes : (w n : ℕ) (f : Wave → List (List ℕ)) → ((k : ℕ) → Within 1 (length ps) k → allBytes (orderOf (opened (partAt 1 ps) .head)) w (flatten (f (opened (partAt k ps)))) ≡ stretch n (partAt k ps))
+      → allBytes (orderOf (opened (partAt 1 ps) .head)) w (flatten (flatten (map f (wavesOf ps)))) ≡ flatten (map (stretch n) (byIndex ps))
+  own-bytes w n f h =
+      let o : ℕ = orderOf (opened (partAt 1 ps) .head) in
+      bytes-tables o w f (wavesOf ps)
+      ∙ ap (flatten {A = ℕ}) (map-map (λ v. allBytes o w (flatten (f v))) opened (byIndex ps)
+      ∙ map-every (λ p. allBytes o w (flatten (f (opened p)))) (stretch n) (byIndex ps) (unfold byIndex in
+      every-mapped (λ p. allBytes o w (flatten (f (opened p))) ≡ stretch n p) (λ k. partAt k ps) (upFrom 1 (length ps))
+      (Every-upFrom (λ k. allBytes o w (flatten (f (opened (partAt k ps)))) ≡ stretch n (partAt k ps)) 1 (length ps) (λ k l m. h k (l, m)))))
+
+  module _ (k : ℕ) (w : Within 1 (length ps) k) where
+    at-bytes : Bytes (partAt k ps)
+    at-bytes = every-at-index Bytes k ps (j .once k (w .0) (w .1)) b
+
+    at-good : refusal (partAt k ps) ≡ 0
+    at-good = every-at-index (λ (p : List ℕ). refusal p ≡ 0) k ps (j .once k (w .0) (w .1)) (j .good)
+
+    order-same : orderOf (opened (partAt 1 ps) .head) ≡ orderOf (opened (partAt k ps) .head)
+    order-same = sym (part-of ps b j k (w .0) (w .1) .head 34 refl)
+
+    size-same : sizeOf (opened (partAt 1 ps) .head) ≡ sizeOf (opened (partAt k ps) .head)
+    size-same = sym (size-alike (opened (partAt 1 ps)) (opened (partAt k ps)) (part-of ps b j k (w .0) (w .1)))
+
+  pub payload-joined : encode (joined (wavesOf ps)) ≡
+      laid (orderOf (opened (partAt 1 ps) .head)) template (joined (wavesOf ps) .head)
+      ++ (opened (partAt 1 ps) .text
+      ++ (flatten (map (stretch 3) (byIndex ps))
+      ++ (stretch 4 (partAt 1 ps)
+      ++ (flatten (map (stretch 6) (byIndex ps)) ++ flatten (map (stretch 7) (byIndex ps))))))
+  unfolding encode written flatten joined
+  payload-joined =
+      let q : Wave = opened (partAt 1 ps) in
+      let o : ℕ = orderOf (q .head) in
+      let z : ℕ = sizeOf (q .head) in
+      let f : Within 1 (length ps) 1 = (omega arith, omega (arith, j .some)) in
+      let e : lead (wavesOf ps) ≡ q = wave-at ps 0 (j .some) in
+      let t : allBytes o 8 (flatten (flatten (map (λ (v : Wave). v .trig) (wavesOf ps)))) ≡ flatten (map (stretch 3) (byIndex ps)) =
+      own-bytes 8 3 (λ (v : Wave). v .trig) (λ k w. ap (λ (r : ℕ). allBytes r 8 (flatten (opened (partAt k ps) .trig))) (order-same k w) ∙ trig-stretch (partAt k ps) (at-bytes k w) (at-good k w)) in
+      let r : allBytes o 8 (q .ris) ≡ stretch 4 (partAt 1 ps) = ris-stretch (partAt 1 ps) (at-bytes 1 f) (at-good 1 f) in
+      let x : allBytes o z (flatten (flatten (map (λ (v : Wave). v .one) (wavesOf ps)))) ≡ flatten (map (stretch 6) (byIndex ps)) =
+      own-bytes z 6 (λ (v : Wave). v .one) (λ k w. ap₂ {C = List ℕ} (λ r y. allBytes r y (flatten (opened (partAt k ps) .one))) (order-same k w) (size-same k w) ∙ one-stretch (partAt k ps) (at-bytes k w) (at-good k w)) in
+      let y : allBytes o z (flatten (flatten (map (λ (v : Wave). v .two) (wavesOf ps)))) ≡ flatten (map (stretch 7) (byIndex ps)) =
+      own-bytes z 7 (λ (v : Wave). v .two) (λ k w. ap₂ {C = List ℕ} (λ r y. allBytes r y (flatten (opened (partAt k ps) .two))) (order-same k w) (size-same k w) ∙ two-stretch (partAt k ps) (at-bytes k w) (at-good k w)) in
+      ap (λ (v : Wave).
+      laid (orderOf (v .head)) template (joined (wavesOf ps) .head)
+      ++ (v .text
+      ++ (allBytes (orderOf (v .head)) 8 (flatten (flatten (map (λ (u : Wave). u .trig) (wavesOf ps))))
+      ++ (allBytes (orderOf (v .head)) 8 (v .ris)
+      ++ (allBytes (orderOf (v .head)) (sizeOf (v .head)) (flatten (flatten (map (λ (u : Wave). u .one) (wavesOf ps))))
+      ++ (allBytes (orderOf (v .head)) (sizeOf (v .head)) (flatten (flatten (map (λ (u : Wave). u .two) (wavesOf ps)))) ++ [])))))) e
+      ∙ λ i. laid o template (joined (wavesOf ps) .head) ++ (q .text ++ (t i ++ (r i ++ (x i ++ (append-nil (allBytes o z (flatten (flatten (map (λ (v : Wave). v .two) (wavesOf ps))))) ∙ y) i))))
