@@ -1,20 +1,21 @@
--- The parts of a slice: one after another (`parts-next`) they cover it (`parts-cover`), what is cut short is 1 or 2 (`short-part`), a good part ends after its L bytes (`parts-end`), and
+-- The parts of a slice: one after another (`parts-next`) they cover it (`parts-cover`), what breaks rule 1 or is cut short is 1 or 2 (`unframed-part`, `cut-part`), a good part ends after its L bytes (`parts-end`), and
 -- blocks laid back to back that end so are read as they are (`parts-flatten`).
 use mathlib.Core.Path.{_≡_, refl, sym, ap, ap₂, _∙_}
 use Prim.Native.Nat.{ℕ, zero, suc, _+_, _-_, _≤_, _<_}
 use native.Mathlib.Omega.{arith}
-use mathlib.Core.Bool.{Bool, true, false}
-use mathlib.Core.Logic.{_⊎_, inl, inr, ⊎-elim}
+use mathlib.Core.Bool.{Bool, true, false, _&&_}
+use mathlib.Core.Logic.{⊎-elim}
 use mathlib.Core.List.{List, [], _∷_, _++_, map, reverse, flatten}
 use lib.ListN.{length, getD, take, drop, List·getD-append, length-append, length-take, length-drop, take-append-drop}
-use lib.Seq.{take-append-le, drop-append-le, take-at, drop-at, take-all, length-take-le}
-use lib.Dec.{ltb}
-use borrow.Author.Tests.{ltb-true, ltb-false}
+use lib.Seq.{take-append-le, drop-append-le, take-at, drop-at, take-all, length-take-le, getD-take}
+use lib.Dec.{leb, ltb, eqb}
+use borrow.Author.Tests.{leb-true, leb-false, le-leb, lt-leb, ltb-true, ltb-false}
 use Rattle.rules.specs.Numbers.{Bytes, low}
-use Rattle.rules.specs.Rules.{all, digitCount, payloadStart, stated, frame, sized, rules, refusal}
+use Rattle.rules.specs.Rules.{all, every?, digit?, digitCount, payloadStart, stated, frame, sized, rules, refusal}
 use Rattle.rules.proofs.Tests.{here, later, all-each}
 use Rattle.rules.proofs.Facts.{sized-says}
 use Rattle.rules.proofs.Numbers.{below-take, below-drop}
+use Rattle.rules.proofs.Slices.{part-take}
 use Rattle.rules.proofs.Opened.{breaks}
 use Rattle.joining.specs.Join.{partEnd, partsUpTo, partsIn}
 use Rattle.joining.proofs.Lists.{Every}
@@ -89,33 +90,54 @@ module _ (n : ℕ) (s : List ℕ) (h : 2 ≤ length (take n s)) where
   pub stated-take : payloadStart s ≤ length (take n s) → stated (take n s) ≡ stated s
   stated-take l = sym (stated-append (take n s) (drop n s) h (omega (arith, start-take))) ∙ ap stated (take-append-drop n s)
 
--- fewer bytes than the header says: the number is 1 or 2
-pub short-part : (s : List ℕ) → length s < partEnd s → (refusal s ≡ 1) ⊎ (refusal s ≡ 2)
-short-part s h = go (all (frame s)) refl (all (sized s)) refl
+-- a test of a length that reaches no further than the cut
+long-take : (k n : ℕ) (s : List ℕ) → k ≤ n → leb k (length (take n s)) ≡ leb k (length s)
+long-take k n s h = go (leb k (length s)) refl
   where
-    go : (t : Bool) → all (frame s) ≡ t → (u : Bool) → all (sized s) ≡ u → (refusal s ≡ 1) ⊎ (refusal s ≡ 2)
-    go false e u f = inl (breaks s 1 (omega arith) .1 (unfold rules in here e))
-    go true e false f = inr (breaks s 2 (omega arith) .1 (unfold rules in later (all-each (frame s) e) (here f)))
-    go true e true f =
+    go : (t : Bool) → leb k (length s) ≡ t → leb k (length (take n s)) ≡ t
+    go true e = le-leb k (length (take n s)) (omega (arith, leb-true k (length s) e, length-take n s))
+    go false e = lt-leb k (length (take n s)) (omega (arith, leb-false k (length s) e, length-take n s))
+
+-- rule 1 of a part is that of what is left of the slice
+pub frame-part : (s : List ℕ) → frame (take (partEnd s) s) ≡ frame s
+unfolding frame
+frame-part s =
+    let e : ℕ = partEnd s in
+    let b : getD (take e s) 1 0 ≡ getD s 1 0 = getD-take e s 1 0 (omega arith) in
+    let a : getD (take e s) 0 0 ≡ getD s 0 0 = getD-take e s 0 0 (omega arith) in
+    let d : take (digitCount (take e s)) (drop 2 (take e s)) ≡ take (digitCount s) (drop 2 s) =
+    ap (λ (n : ℕ). take (n - 48) (drop 2 (take e s))) b ∙ part-take (digitCount s) 2 e s (omega arith) in
+    let l : leb (payloadStart (take e s)) (length (take e s)) ≡ leb (payloadStart s) (length s) =
+    ap (λ (n : ℕ). leb (2 + (n - 48)) (length (take e s))) b ∙ long-take (payloadStart s) e s (omega arith) in
+    λ i. long-take 2 e s (omega arith) i ∷ eqb (a i) 35 ∷ (leb 49 (b i) && leb (b i) 57) ∷ l i ∷ every? digit? (d i) ∷ []
+
+-- a part whose header breaks rule 1, and one of which fewer bytes are there than its header says
+pub unframed-part : (s : List ℕ) → all (frame s) ≡ false → refusal (take (partEnd s) s) ≡ 1
+unframed-part s e = breaks (take (partEnd s) s) 1 (omega arith) .1 (unfold rules in here (ap all (frame-part s) ∙ e))
+
+short-part : (s : List ℕ) → all (frame s) ≡ true → length s < partEnd s → refusal s ≡ 2
+short-part s f h = go (all (sized s)) refl
+  where
+    go : (t : Bool) → all (sized s) ≡ t → refusal s ≡ 2
+    go false e = breaks s 2 (omega arith) .1 (unfold rules in later (all-each (frame s) f) (here e))
+    go true e =
         ⊎-elim (λ (q : length s ≡ partEnd s). absurd (omega arith)) (λ (q : (length s ≡ partEnd s + 1) × (getD s (partEnd s) 0 ≡ 10)). absurd (omega (arith, q .0)))
-        (sized-says s (all-each (sized s) f) .whole)
+        (sized-says s (all-each (sized s) e) .whole)
+
+pub cut-part : (s : List ℕ) → all (frame s) ≡ true → length s < partEnd s → refusal (take (partEnd s) s) ≡ 2
+cut-part s f h = ap refusal (take-all (partEnd s) s (omega arith)) ∙ short-part s f h
 
 -- a block that ends after its L bytes
 abbrev pub Ends : List ℕ → Type 0
 Ends p = length p ≡ partEnd p
 
 good-ends : (s : List ℕ) → refusal (take (partEnd s) s) ≡ 0 → Ends (take (partEnd s) s)
-good-ends s e = go (ltb (length s) (partEnd s)) refl
+good-ends s e = go (all (frame s)) refl (ltb (length s) (partEnd s)) refl
   where
-    none : (refusal s ≡ 1) ⊎ (refusal s ≡ 2) → refusal s ≡ 0 → ⊥
-    none (inl a) z = omega arith
-    none (inr a) z = omega arith
-
-    go : (t : Bool) → ltb (length s) (partEnd s) ≡ t → Ends (take (partEnd s) s)
-    go true q =
-        let h : length s < partEnd s = ltb-true (length s) (partEnd s) q in
-        absurd (none (short-part s h) (ap refusal (sym (take-all (partEnd s) s (omega arith))) ∙ e))
-    go false q =
+    go : (f : Bool) → all (frame s) ≡ f → (t : Bool) → ltb (length s) (partEnd s) ≡ t → Ends (take (partEnd s) s)
+    go false f t q = absurd (omega (arith, unframed-part s f))
+    go true f true q = absurd (omega (arith, cut-part s f (ltb-true (length s) (partEnd s) q)))
+    go true f false q =
         let h : partEnd s ≤ length s = ltb-false (length s) (partEnd s) q in
         let l : length (take (partEnd s) s) ≡ partEnd s = length-take-le (partEnd s) s h in
         omega (arith, start-take (partEnd s) s (omega arith), stated-take (partEnd s) s (omega arith) (omega arith))

@@ -1,5 +1,4 @@
--- For the writer: the joined payload is the first part's descriptor with its fields changed, the user text, and the parts' own bytes by index (`payload-joined`); and rows written each at its
--- part's index, in the order in which the parts came, stand by index at the end (`scattered-all`).
+-- For the writer: the joined payload is the first part's descriptor with its fields changed, the user text, and the parts' own bytes by index (`payload-joined`).
 use mathlib.Core.Path.{_≡_, refl, sym, ap, ap₂, _∙_}
 use Prim.Native.Nat.{ℕ, zero, suc, _+_, _-_, _*_, _≤_, _<_}
 use native.Mathlib.Nat.{suc-mul}
@@ -24,85 +23,6 @@ use Rattle.joining.proofs.Says.{Together}
 use Rattle.joining.proofs.Joined.{lead, size-alike}
 use Rattle.joining.proofs.Reading.{wavesOf, wave-at, part-of}
 use Rattle.joining.proofs.Segments.{rows-count}
-
--- ---- each row at its index
-
-module _ {A : Type 0} (f : List ℕ → A) where
-  -- rows with those of some parts written over them, one after another
-  unfoldable pub scattered : List (List ℕ) → List A → List A
-  scattered [] rows = rows
-  scattered (p ∷ ps) rows = scattered ps (set rows (indexOf p - 1) (f p))
-
-  pub scattered-append : (ps qs : List (List ℕ)) (rows : List A) → scattered (ps ++ qs) rows ≡ scattered qs (scattered ps rows)
-  unfolding scattered
-  scattered-append [] qs rows = refl
-  scattered-append (p ∷ ps) qs rows = scattered-append ps qs (set rows (indexOf p - 1) (f p))
-
-  length-scattered : (ps : List (List ℕ)) (rows : List A) → length (scattered ps rows) ≡ length rows
-  unfolding scattered
-  length-scattered [] rows = refl
-  length-scattered (p ∷ ps) rows = length-scattered ps (set rows (indexOf p - 1) (f p)) ∙ length-set rows (indexOf p - 1) (f p)
-
-  -- a row whose index no part has stays
-  row-kept : (ps : List (List ℕ)) (rows : List A) (j : ℕ) (d : A) → Every (λ p. 1 ≤ indexOf p) ps → length (indexed (suc j) ps) ≡ 0 → getD (scattered ps rows) j d ≡ getD rows j d
-  unfolding scattered
-  row-kept [] rows j d h l = refl
-  row-kept (p ∷ ps) rows j d h l = go (eqb (indexOf p) (suc j)) refl (row-kept ps (set rows (indexOf p - 1) (f p)) j d (h .1))
-    where
-      go : (t : Bool) → eqb (indexOf p) (suc j) ≡ t → (length (indexed (suc j) ps) ≡ 0 → getD (scattered ps (set rows (indexOf p - 1) (f p))) j d ≡ getD (set rows (indexOf p - 1) (f p)) j d)
-          → getD (scattered ps (set rows (indexOf p - 1) (f p))) j d ≡ getD rows j d
-      go true e ih = absurd (omega (arith, l, ap length (indexed-own (suc j) p ps (eqb-true (indexOf p) (suc j) e))))
-      go false e ih =
-          let n : indexOf p ≡ suc j → ⊥ = eqb-false (indexOf p) (suc j) e in
-          ih (sym (ap length (indexed-other (suc j) p ps n)) ∙ l) ∙ getD-set-other rows (indexOf p - 1) j (f p) d (λ q. n (omega (arith, h .0)))
-
-  -- and one that a part has is that part's
-  row-placed : (ps : List (List ℕ)) (rows : List A) (j : ℕ) (d : A) → Every (λ p. 1 ≤ indexOf p) ps → j < length rows → length (indexed (suc j) ps) ≡ 1 → getD (scattered ps rows) j d ≡ f (partAt (suc j) ps)
-  unfolding scattered partAt
-  row-placed [] rows j d h m l = absurd (unfold indexed in omega arith)
-  row-placed (p ∷ ps) rows j d h m l =
-      go (eqb (indexOf p) (suc j)) refl (row-kept ps (set rows (indexOf p - 1) (f p)) j d (h .1)) (row-placed ps (set rows (indexOf p - 1) (f p)) j d (h .1) (omega (arith, length-set rows (indexOf p - 1) (f p))))
-    where
-      go : (t : Bool) → eqb (indexOf p) (suc j) ≡ t
-          → (length (indexed (suc j) ps) ≡ 0 → getD (scattered ps (set rows (indexOf p - 1) (f p))) j d ≡ getD (set rows (indexOf p - 1) (f p)) j d)
-          → (length (indexed (suc j) ps) ≡ 1 → getD (scattered ps (set rows (indexOf p - 1) (f p))) j d ≡ f (getD (indexed (suc j) ps) 0 []))
-          → getD (scattered ps (set rows (indexOf p - 1) (f p))) j d ≡ f (getD (indexed (suc j) (p ∷ ps)) 0 [])
-      go true e kept ih =
-          let q : indexOf p ≡ suc j = eqb-true (indexOf p) (suc j) e in
-          let r : indexed (suc j) (p ∷ ps) ≡ p ∷ indexed (suc j) ps = indexed-own (suc j) p ps q in
-          let i : indexOf p - 1 ≡ j = omega arith in
-          kept (omega (arith, l, ap length r)) ∙ ap (λ (n : ℕ). getD (set rows n (f p)) j d) i ∙ getD-set-same rows j (f p) d m ∙ sym (ap (λ (qs : List (List ℕ)). f (getD qs 0 [])) r)
-      go false e kept ih =
-          let r : indexed (suc j) (p ∷ ps) ≡ indexed (suc j) ps = indexed-other (suc j) p ps (eqb-false (indexOf p) (suc j) e) in
-          ih (sym (ap length r) ∙ l) ∙ sym (ap (λ (qs : List (List ℕ)). f (getD qs 0 [])) r)
-
-  pub scattered-all : (ps : List (List ℕ)) (rows : List A) → Once 1 (length ps) ps → length rows ≡ length ps → scattered ps rows ≡ map f (byIndex ps)
-  scattered-all ps rows once n =
-      let same : length (scattered ps rows) ≡ length (map f (byIndex ps)) = length-scattered ps rows ∙ n ∙ sym (length-map (byIndex ps) f ∙ length-byIndex ps) in
-      ext-getD (f []) (scattered ps rows) (map f (byIndex ps)) same (λ j l.
-      let m : j < length rows = omega (arith, length-scattered ps rows) in
-      row-placed ps rows j (f []) (every-map (λ p w. w .0) ps (within ps once)) m (once (suc j) (omega arith) (omega arith))
-      ∙ sym (List·getD-map f (byIndex ps) j [] ∙ ap f (byIndex-at ps j (omega arith))))
-
--- a row of k written at its place among rows of k
-pub place-row : (n k i : ℕ) (rows : List (List ℕ)) (r : List ℕ) → Rows n k rows → i < n → length r ≡ k → splice (flatten rows) (i * k) r ≡ flatten (set rows i r)
-unfolding flatten
-place-row n k i [] r e h l = absurd (omega (arith, rows-count n k [] e))
-place-row zero k i (x ∷ rows) r e h l = absurd (omega arith)
-place-row (suc n) k zero (x ∷ rows) r e h l =
-    let z : 0 * k ≡ 0 = omega arith in
-    let m : 0 + length r ≡ length x = omega (arith, head-eq-of-cons-eq e) in
-    ap (λ (j : ℕ). splice (x ++ flatten rows) j r) z ∙ ap {B = List ℕ} (λ y. r ++ y) (drop-at x (flatten rows) (0 + length r) (sym m))
-place-row (suc n) k (suc i) (x ∷ rows) r e h l =
-    let m : length x ≡ k = head-eq-of-cons-eq e in
-    let z : suc i * k ≡ length x + i * k = omega (arith, suc-mul i k) in
-    ap (λ (j : ℕ). splice (x ++ flatten rows) j r) z ∙ behind x (flatten rows) (i * k) r ∙ ap {B = List ℕ} (λ y. x ++ y) (place-row n k i rows r (tail-eq-of-cons-eq e) (omega arith) l)
-  where
-    behind : (xs ys : List ℕ) (j : ℕ) (zs : List ℕ) → splice (xs ++ ys) (length xs + j) zs ≡ xs ++ splice ys j zs
-    behind xs ys j zs =
-        let a : length xs + j + length zs ≡ length xs + (j + length zs) = omega arith in
-        ap₂ {C = List ℕ} (λ u v. u ++ zs ++ v) (take-append-add xs ys j) (ap (λ (m : ℕ). drop m (xs ++ ys)) a ∙ drop-append-add xs ys (j + length zs))
-        ∙ ap (λ (u : List ℕ). u ++ drop (j + length zs) ys) (append-assoc xs (take j ys) zs) ∙ append-assoc xs (take j ys ++ zs) (drop (j + length zs) ys)
 
 -- ---- the bytes that the parts give
 
