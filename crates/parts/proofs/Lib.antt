@@ -2,3 +2,4 @@ pub mod Comparing
 pub mod Standing
 pub mod Scattering
 pub mod Walking
+pub mod Tables

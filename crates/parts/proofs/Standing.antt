@@ -23,6 +23,20 @@ unfolding partAs
 refused-is s at zero h e = absurd (omega arith)
 refused-is s at (suc n) h e = sym (ap (λ (m : ℕ). answer m at (this s at)) e)
 
+-- what an answer says of the part
+module _ (s : List ℕ) (at : ℕ) (r : Part) (e : r ≡ partAs s at) where
+  pub part-number : r .refusal ≡ refusal (this s at)
+  unfolding partAs
+  part-number = ap (λ (x : Part). x .refusal) e ∙ go (refusal (this s at))
+    where
+      go : (n : ℕ) → answer n at (this s at) .refusal ≡ n
+      go zero = refl
+      go (suc n) = refl
+
+  pub part-good : r .refusal ≡ 0 → r ≡ answer 0 at (this s at)
+  unfolding partAs
+  part-good z = e ∙ ap (λ (n : ℕ). answer n at (this s at)) (sym part-number ∙ z)
+
 module _ (s : List ℕ) (at : ℕ) where
   -- what is left of the slice, as it is handed on
   pub rest-is : take (length s - at) (drop at s) ≡ drop at s
@@ -62,6 +76,9 @@ module _ (s : List ℕ) (at : ℕ) where
   -- ---- the bytes of a part, in the slice
 
   module _ (h : at < length s) where
+    pub some-bytes : 1 ≤ length (this s at)
+    some-bytes = omega (arith, length-take (partEnd (drop at s)) (drop at s), length-drop at s)
+
     pub reach : at + length (this s at) ≤ length s
     reach = omega (arith, length-take (partEnd (drop at s)) (drop at s), length-drop at s)
 

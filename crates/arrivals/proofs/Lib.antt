@@ -1,0 +1,4 @@
+pub mod Choices
+pub mod Beside
+pub mod Meeting
+pub mod Turns
