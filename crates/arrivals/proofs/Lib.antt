@@ -2,3 +2,4 @@ pub mod Choices
 pub mod Beside
 pub mod Meeting
 pub mod Turns
+pub mod Windows

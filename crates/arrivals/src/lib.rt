@@ -1,5 +1,8 @@
 // The parts of a join as they arrive, in any order: each is judged, compared with the first, and its index noted, in one way through them.
+mod times;
+
 use parts::Part;
+pub use times::rise;
 ghost use mathlib.Core.Path.{_≡_};
 ghost use mathlib.Core.Bool.{true, cond};
 ghost use Prim.Native.Nat.{ℕ, _<_};

@@ -11,7 +11,7 @@ use borrow.Author.Tests.{eqb-true, eqb-false, eq-eqb, ne-eqb}
 use Rattle.rules.specs.Numbers.{upFrom, total}
 use Rattle.rules.proofs.Thin.{length-upFrom}
 use Rattle.joining.specs.Join.{indexOf, indexed, partAt, byIndex}
-use Rattle.joining.proofs.Lists.{Every, every-getD, perm-one, getD-upFrom}
+use Rattle.joining.proofs.Lists.{Every, every-mapped, Every-upFrom, every-getD, perm-one, getD-upFrom}
 
 -- ---- those of index k
 
@@ -86,6 +86,10 @@ every-at-index P k ps l h = every-getD P (indexed k ps) 0 [] (omega arith) (ever
 pub index-at : (k : ℕ) (ps : List (List ℕ)) → length (indexed k ps) ≡ 1 → indexOf (partAt k ps) ≡ k
 unfolding partAt
 index-at k ps l = every-getD (λ p. indexOf p ≡ k) (indexed k ps) 0 [] (omega arith) (index-indexed k ps)
+
+pub every-byIndex : (P : List ℕ → Type 0) (ps : List (List ℕ)) → ((k : ℕ) → 1 ≤ k → k < 1 + length ps → length (indexed k ps) ≡ 1) → Every P ps → Every P (byIndex ps)
+unfolding byIndex
+every-byIndex P ps once h = every-mapped P (λ k. partAt k ps) (upFrom 1 (length ps)) (Every-upFrom (λ k. P (partAt k ps)) 1 (length ps) (λ k l m. every-at-index P k ps (once k l m) h))
 
 pub length-byIndex : (ps : List (List ℕ)) → length (byIndex ps) ≡ length ps
 unfolding byIndex

@@ -7,17 +7,17 @@ use Prim.Native.Nat.{ℕ, _+_, _-_, _≤_}
 use lib.Ieee.{Float, binary64, ofBits, nanBits, lt}
 use Rattle.rules.specs.Numbers.{upFrom}
 use Rattle.rules.specs.Rules.{ascending}
-use Rattle.block.specs.Opened.{timeAt, timesFrom}
-use Rattle.block.proofs.Times.{time-finite, after, after-none, time-more, time-end}
+use Rattle.block.specs.Opened.{timeBy, timesBy}
+use Rattle.block.proofs.Times.{after, after-none, time-more, time-end}
 use borrow.Author.Needs.{needs}
 use Rattle.block.proofs.tables.ascend.Statement.{statement}
 use Rattle.block.proofs.tables.ascend.Tie as tie
 
 abbrev Inv-loop : tie.InvT-loop
-Inv-loop block from count order last₀ ok₀ j₀ last ok j = (j ≤ count) × (ascending (timesFrom order from count block) ≡ ok && after last (map (timeAt order from block) (upFrom j (count - j))))
+Inv-loop s from step count order last₀ ok₀ j₀ last ok j = (j ≤ count) × (ascending (timesBy order from step count s) ≡ ok && after last (map (timeBy order from step s) (upFrom j (count - j))))
 
 abbrev μ-loop : tie.MeasureT-loop
-μ-loop block from count order last₀ ok₀ j₀ last ok j = count - j
+μ-loop s from step count order last₀ ok₀ j₀ last ok j = count - j
 
 float-from-bits-last : tie.Need-float-from-bits-last Inv-loop μ-loop
 unfolding nanBits
@@ -28,21 +28,19 @@ loop-holds c =
     let a = c .before .args in
     let all : a .count ≡ a .count - 0 = omega arith in (
       omega arith,
-      after-none (timesFrom (a .order) (a .from) (a .count) (a .block .now))
-          ∙ ap (λ (n : ℕ). after (ofBits binary64 18442240474082181120) (map (timeAt (a .order) (a .from) (a .block .now)) (upFrom 0 n))) all,
+      after-none (timesBy (a .order) (a .from) (a .step) (a .count) (a .s .now))
+          ∙ ap (λ (n : ℕ). after (ofBits binary64 18442240474082181120) (map (timeBy (a .order) (a .from) (a .step) (a .s .now)) (upFrom 0 n))) all,
     )
 
 mul-double-at : tie.Need-mul-double-at Inv-loop μ-loop
-mul-double-at c = search needs
+mul-double-at c = omega (arith, c .before .before .before .pre (c .before .loop .j) (c .loop-test .taken) .0)
 
 add-double-at : tie.Need-add-double-at Inv-loop μ-loop
-add-double-at c = search needs
+add-double-at c = omega (arith, c .before .before .before .pre (c .before .loop .j) (c .loop-test .taken) .0)
 
 double-at-requires : tie.Need-double-at-requires Inv-loop μ-loop
 double-at-requires c κs =
-    let k = c .before .before .before in
-    let j = c .before .loop .j in
-    (omega (arith, k .pre .0, c .loop-test .taken), time-finite (k .args .order) (k .args .from) (k .args .count) (k .args .block .now) (k .pre .1) j (c .loop-test .taken))
+    let f = c .before .before .before .pre (c .before .loop .j) (c .loop-test .taken) in (f .0, f .1)
 
 add-j : tie.Need-add-j Inv-loop μ-loop
 add-j c = search needs
@@ -56,15 +54,15 @@ loop-again c =
     let l = c .before .before .loop in
     let t = c .double-at .ensures in (
       omega (arith, c .before .loop-test .taken),
-      time-more (timeAt (a .order) (a .from) (a .block .now)) (a .count) _ (l .ok) _ (l .last) (l .j) (c .before .loop-test .taken) (ap (λ (x : Float). not (lt x (l .last))) t) (l .inv .1)
-          ∙ ap (λ (x : Float). (l .ok && not (lt (c .double-at .result) (l .last))) && after x (map (timeAt (a .order) (a .from) (a .block .now)) (upFrom (l .j + 1) (a .count - (l .j + 1))))) (sym t),
+      time-more (timeBy (a .order) (a .from) (a .step) (a .s .now)) (a .count) _ (l .ok) _ (l .last) (l .j) (c .before .loop-test .taken) (ap (λ (x : Float). not (lt x (l .last))) t) (l .inv .1)
+          ∙ ap (λ (x : Float). (l .ok && not (lt (c .double-at .result) (l .last))) && after x (map (timeBy (a .order) (a .from) (a .step) (a .s .now)) (upFrom (l .j + 1) (a .count - (l .j + 1))))) (sym t),
     )
 
 returns : tie.Need-returns Inv-loop μ-loop
 returns c =
     let a = c .before .before .before .args in
     let l = c .before .loop in
-    time-end (timeAt (a .order) (a .from) (a .block .now)) (a .count) _ (l .ok) (l .last) (l .j) (c .loop-test .left) (l .inv .1)
+    time-end (timeBy (a .order) (a .from) (a .step) (a .s .now)) (a .count) _ (l .ok) (l .last) (l .j) (c .loop-test .left) (l .inv .1)
 
 pub ascend-spec : {M : Type 1} → statement M
 ascend-spec =

@@ -1,10 +1,12 @@
 -- At once, or by each rule.
 use mathlib.Core.Path.{refl, sym, ap}
 use Prim.Native.Nat.{ℕ}
+use native.Mathlib.Omega.{arith}
 use Rattle.rules.specs.Numbers.{pieces, upFrom}
 use Rattle.rules.specs.Rules.{first}
 use Rattle.block.specs.Opened.{entryRules}
 use Rattle.block.proofs.Ladder.{passes, fails}
+use Rattle.block.proofs.Times.{time-finite}
 use borrow.Author.Needs.{needs}
 use Rattle.block.proofs.tables.number_of_entries.Statement.{statement}
 use Rattle.block.proofs.tables.number_of_entries.Tie as tie
@@ -29,7 +31,10 @@ returns-3 : tie.Need-returns-3
 returns-3 c = rw (fails (c .before .finite-doubles .ensures) (c .if3 .taken)) refl
 
 ascend-requires : tie.Need-ascend-requires
-ascend-requires c κs = (c .before .before .before .before .before .before .pre, passes (c .before .finite-doubles .ensures) (c .if3 .left))
+ascend-requires c κs =
+    let start = c .before .before .before .before .before .before in
+    let a = start .args in
+    λ j h. (omega (arith, start .pre), time-finite (a .order) (a .from) (a .count) (a .block .now) (passes (c .before .finite-doubles .ensures) (c .if3 .left)) j h)
 
 returns-4 : tie.Need-returns-4
 returns-4 c =
