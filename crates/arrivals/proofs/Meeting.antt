@@ -12,7 +12,7 @@ use Rattle.rules.specs.Numbers.{Bytes, upFrom}
 use Rattle.rules.specs.Wave.{segments}
 use Rattle.rules.specs.Rules.{all, every?, refusal, opened}
 use Rattle.rules.specs.Cut.{orElse}
-use Rattle.rules.proofs.Tests.{and-true, and-intro}
+use Rattle.rules.proofs.Tests.{and-true, and-intro, or-some}
 use Rattle.rules.proofs.Opened.{good-opened}
 use Rattle.joining.specs.Join.{partsIn, indexOf, indexed, joinedBytes, common, joining, joinRefusal}
 use Rattle.joining.proofs.Lists.{Every, every-both, every-upFrom, upFrom-every}
@@ -48,10 +48,6 @@ indexed-one k p = go (eqb k (indexOf p)) refl
 bad-behind : (ps qs : List (List ℕ)) → Every (λ p. refusal p ≡ 0) ps → firstBad (ps ++ qs) ≡ firstBad qs
 bad-behind [] qs h = refl
 bad-behind (p ∷ ps) qs h = firstBad-next p (ps ++ qs) ∙ ap (λ (n : ℕ). orElse n (firstBad (ps ++ qs))) (h .0) ∙ bad-behind ps qs (h .1)
-
-or-some : (a b : ℕ) → 0 < a → orElse a b ≡ a
-or-some zero b h = absurd (omega arith)
-or-some (suc a) b h = refl
 
 -- ---- the parts that were met
 
@@ -105,8 +101,8 @@ module _ (s seen : List ℕ) (together : Bool) (count here : ℕ) (m : Met s see
   met-bad n e l room =
       let p : List ℕ = this s here in
       let rest : List (List ℕ) = partsIn (drop (here + length p) s) in
-      let f : firstBad (partsIn s) ≡ n = ap firstBad (next (here + length p) refl) ∙ bad-behind (m .done) (p ∷ rest) (m .good) ∙ firstBad-next p rest ∙ or-some (refusal p) (firstBad rest) (omega arith) ∙ sym e in
-      join-number s room ∙ ap (λ (x : ℕ). orElse x (cond (all (joining (partsIn s))) (cond (leb (length (joinedBytes (partsIn s))) room) 0 13) 16)) f ∙ or-some n _ l
+      let f : firstBad (partsIn s) ≡ n = ap firstBad (next (here + length p) refl) ∙ bad-behind (m .done) (p ∷ rest) (m .good) ∙ firstBad-next p rest ∙ sym (or-some (refusal p) (firstBad rest) (omega arith)) ∙ sym e in
+      join-number s room ∙ ap (λ (x : ℕ). orElse x (cond (all (joining (partsIn s))) (cond (leb (length (joinedBytes (partsIn s))) room) 0 13) 16)) f ∙ sym (or-some n _ (omega (arith, l)))
 
   -- a good one that fits or does not
   module _ (fits : Bool) (more : List ℕ) (z : refusal (this s here) ≡ 0)

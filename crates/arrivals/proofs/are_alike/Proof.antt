@@ -3,10 +3,11 @@ use mathlib.Core.Path.{sym, _∙_}
 use Prim.Native.Nat.{_+_}
 use native.Mathlib.Omega.{arith}
 use mathlib.Core.Bool.{_&&_}
+use borrow.Author.Tests.{not-true, not-false}
 use borrow.Author.Needs.{needs}
 use Rattle.rules.specs.Rules.{same}
 use Rattle.copies.specs.Copies.{part}
-use Rattle.arrivals.proofs.Choices.{not-true, not-false, stop-first, stop-second, all-three}
+use Rattle.arrivals.proofs.Choices.{stop-first, stop-second, all-three}
 use Rattle.arrivals.proofs.are_alike.Statement.{statement}
 use Rattle.arrivals.proofs.are_alike.Tie as tie
 

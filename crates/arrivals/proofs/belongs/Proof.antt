@@ -4,12 +4,12 @@ use Prim.Native.Nat.{ℕ, zero, suc, _≤_}
 use native.Mathlib.Omega.{arith}
 use mathlib.Core.Bool.{Bool, true, false}
 use lib.Dec.{eqb}
-use borrow.Author.Tests.{eqb-true, eqb-false, eq-eqb, ne-eqb}
+use borrow.Author.Tests.{eqb-true, eqb-false, eq-eqb, ne-eqb, not-true, not-false}
 use borrow.Author.Needs.{needs}
 use Rattle.seen.specs.Seen.{seenOf}
 use Rattle.seen.proofs.Bits.{seen-small}
 use Rattle.arrivals.specs.Arrivals.{index?, alike?}
-use Rattle.arrivals.proofs.Choices.{not-true, not-false, stop-first, stop-second, all-three}
+use Rattle.arrivals.proofs.Choices.{stop-first, stop-second, all-three}
 use Rattle.arrivals.proofs.Turns.{index-says}
 use Rattle.arrivals.proofs.belongs.Statement.{statement}
 use Rattle.arrivals.proofs.belongs.Tie as tie

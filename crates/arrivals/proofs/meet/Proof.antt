@@ -5,6 +5,7 @@ use native.Mathlib.Omega.{arith}
 use mathlib.Core.Bool.{true, _&&_}
 use mathlib.Core.List.{List, []}
 use lib.ListN.{length, getD}
+use borrow.Author.Tests.{not-true, not-false}
 use borrow.Author.Needs.{needs}
 use Rattle.rules.specs.Numbers.{Bytes}
 use Rattle.rules.specs.Rules.{payloadStart, refusal, opened}
@@ -15,7 +16,6 @@ use Rattle.seen.proofs.Bits.{seen-none}
 use Rattle.parts.specs.declared.Part.{Part}
 use Rattle.parts.specs.Parts.{this, answer}
 use Rattle.parts.proofs.Standing.{part-number, part-good, reach, some-bytes}
-use Rattle.arrivals.proofs.Choices.{not-true, not-false}
 use Rattle.arrivals.proofs.Meeting.{Met, met-bad}
 use Rattle.arrivals.proofs.Turns.{index-says, fresh-says, first-is, first-met, this-comparable, next-met, refused-judges, many-apart, apart, met-judges}
 use Rattle.arrivals.proofs.meet.Statement.{statement}

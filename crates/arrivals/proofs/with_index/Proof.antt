@@ -1,6 +1,6 @@
 use mathlib.Core.Path.{_≡_, sym, _∙_}
 use mathlib.Core.Bool.{true, false≢true}
-use Rattle.arrivals.proofs.Choices.{not-true, not-false}
+use borrow.Author.Tests.{not-true, not-false}
 use Rattle.arrivals.proofs.with_index.Statement.{statement}
 use Rattle.arrivals.proofs.with_index.Tie as tie
 

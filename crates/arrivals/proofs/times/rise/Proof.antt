@@ -3,12 +3,12 @@ use mathlib.Core.Path.{_≡_, refl, sym, ap, _∙_}
 use Prim.Native.Nat.{ℕ, _+_, _-_, _≤_, min}
 use native.Mathlib.Omega.{arith}
 use lib.ListN.{length, drop, length-map}
+use borrow.Author.Tests.{not-true, not-false}
 use borrow.Author.Needs.{needs}
 use Rattle.rules.specs.Rules.{ascending}
 use Rattle.joining.specs.Join.{partsIn, byIndex}
 use Rattle.joining.proofs.Index.{length-byIndex}
 use Rattle.arrivals.specs.Arrivals.{timeAt, timesAt}
-use Rattle.arrivals.proofs.Choices.{not-true, not-false}
 use Rattle.arrivals.proofs.Windows.{past-window, window-falls, last-window}
 use Rattle.arrivals.proofs.times.rise.Statement.{statement}
 use Rattle.arrivals.proofs.times.rise.Tie as tie
