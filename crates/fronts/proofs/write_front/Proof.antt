@@ -1,0 +1,110 @@
+-- The head follows the header, and the text the head.
+use mathlib.Core.Path.{ap, ap₂, _∙_}
+use mathlib.Core.List.{List}
+use Prim.Native.Nat.{ℕ, _+_}
+use native.Mathlib.Omega.{arith}
+use Rattle.rules.specs.Numbers.{Bytes, splice}
+use Rattle.rules.specs.Rules.{opened}
+use Rattle.rules.proofs.Numbers.{below-index}
+use Rattle.copies.specs.Copies.{header}
+use Rattle.copies.proofs.Laws.{three-at}
+use Rattle.copies.proofs.Head.{length-header}
+use Rattle.fronts.proofs.Fronting.{FrontNeeds, front-needs, frontHead, head-out, text-out, head-long}
+use borrow.Author.Needs.{needs}
+use Rattle.fronts.proofs.write_front.Statement.{statement}
+use Rattle.fronts.proofs.write_front.Tie as tie
+
+bytes : (c : tie.After-shared-slice-known) → Bytes (c .before .args .part .now)
+bytes c = below-index 256 (c .before .args .part .now) (λ i h. c .shared-slice-known .given i .fits)
+
+needed : (c : tie.After-shared-slice-known) → FrontNeeds (c .before .args .part .now) (c .before .args .o) (c .before .args .count)
+needed c = let x = c .before in front-needs (x .args .part .now) (bytes c) (x .args .o) (x .args .count) (x .pre .0)
+
+array-read-text : tie.Need-array-read-text
+array-read-text c = search needs
+
+cast-text : tie.Need-cast-text
+cast-text c = omega (arith, needed (c .before .before .before) .text-room)
+
+add-u32-at : tie.Need-add-u32-at
+add-u32-at c = omega (arith, needed (c .before .before .before) .head-room)
+
+u32-at-requires : tie.Need-u32-at-requires
+u32-at-requires c κs = omega (arith, needed (c .before .before .before) .head-room)
+
+array-read-t15 : tie.Need-array-read-t15
+array-read-t15 c = search needs
+
+mul-t19 : tie.Need-mul-t19
+mul-t19 c = omega (arith, needed (c .before .before .before .before) .trig)
+
+array-read-t22 : tie.Need-array-read-t22
+array-read-t22 c = search needs
+
+mul-t23 : tie.Need-mul-t23
+mul-t23 c = omega (arith, needed (c .before .before .before .before) .one)
+
+array-read-t26 : tie.Need-array-read-t26
+array-read-t26 c = search needs
+
+mul-t27 : tie.Need-mul-t27
+mul-t27 c = omega (arith, needed (c .before .before .before .before) .two)
+
+mul-t28 : tie.Need-mul-t28
+mul-t28 c = omega (arith, needed (c .before .before .before .before .before) .count)
+
+put-header-requires : tie.Need-put-header-requires
+put-header-requires c κs = omega (arith, c .before .before .before .before .before .before .before .pre .1)
+
+write-head-requires : tie.Need-write-head-requires
+write-head-requires c κs =
+    let y = c .before .before .before .before .before .before .before .before .before .before in
+    let n = needed y in
+    ((n .order, n .order), (n .head-room, omega (arith, y .before .pre .1, c .before .before .before .put-header .kept)))
+
+add-copy-bytes : tie.Need-add-copy-bytes
+add-copy-bytes c = omega (arith, needed (c .before .before .before .before .before .before .before .before .before .before .before .before .before) .head-room)
+
+copy-bytes-requires : tie.Need-copy-bytes-requires
+copy-bytes-requires c κs =
+    let y = c .before .before .before .before .before .before .before .before .before .before .before .before .before .before in
+    (needed y .text-room, omega (arith, y .before .pre .1, c .before .before .before .before .before .before .before .put-header .kept, c .before .before .before .write-head .kept))
+
+same-length : tie.Need-same-length
+same-length c = search needs
+
+returns : tie.Need-returns
+returns c =
+    let y = c .before .before .before .before .before .before .before .before .before .before .before .before .before .before .before .before .before in
+    let x = y .before in
+    let a = x .args in
+    let b = bytes y in
+    let p : List ℕ = a .part .now in
+    let head : List ℕ = frontHead p b (a .o) (a .count) (x .pre .0) in
+    let text : List ℕ = opened p .text in
+    let sparsing = c .before .before .before .before .before .before .before .before .before .before .before .before .before .u32-at in
+    c .before .before .copy-bytes .ensures
+    ∙ ap₂ {C = List ℕ} (λ u v. splice u 357 v) (c .before .before .before .before .before .before .write-head .ensures ∙ ap₂ {C = List ℕ} (λ u v. splice u 11 v) (c .before .before .before .before .before .before .before .before .before .before .put-header .ensures) (head-out p b (a .o) (a .count) (x .pre .0) (sparsing .result) (sparsing .ensures))) (text-out p b (a .o) (a .count) (x .pre .0))
+    ∙ three-at (a .out .now) 11 357 (header (a .total)) head text (length-header (a .total)) (omega (arith, length-header (a .total), head-long p b (a .o) (a .count) (x .pre .0))) (omega (arith, x .pre .1))
+
+pub write-front-spec : {M : Type 1} → statement M
+write-front-spec =
+    tie.close
+    (tie.spec
+    array-read-text
+    cast-text
+    add-u32-at
+    u32-at-requires
+    array-read-t15
+    mul-t19
+    array-read-t22
+    mul-t23
+    array-read-t26
+    mul-t27
+    mul-t28
+    put-header-requires
+    write-head-requires
+    add-copy-bytes
+    copy-bytes-requires
+    same-length
+    returns)
