@@ -174,7 +174,7 @@ module _ (s seen : List ℕ) (together : Bool) (count here : ℕ) (b : Bytes s) 
       let t : together ≡ true = m .only j in (
         omega (arith, count-is, j .most),
         and-intro together (every? (λ k. eqb (seenOf seen k) 1) (upFrom 1 count)) t (upFrom-every (λ k. eqb (seenOf seen k) 1) 1 count (λ k x y.
-        eq-eqb (seenOf seen k) 1 (sym (m .kept t .1 k) ∙ ap (λ (ps : List (List ℕ)). length (indexed k ps)) (sym all-done) ∙ j .once k x (omega (arith, count-is))))),
+            eq-eqb (seenOf seen k) 1 (sym (m .kept t .1 k) ∙ ap (λ (ps : List (List ℕ)). length (indexed k ps)) (sym all-done) ∙ j .once k x (omega (arith, count-is))))),
       )
 
   -- those that do not belong together are 16

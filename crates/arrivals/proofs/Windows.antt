@@ -42,7 +42,7 @@ rises-taken (suc (suc k)) (t ∷ u ∷ ts) e =
     let p = and-true (not (lt (ofBits binary64 u) (ofBits binary64 t))) (ascending (u ∷ ts)) e in
     and-intro (not (lt (ofBits binary64 u) (ofBits binary64 t))) (ascending (take (suc k) (u ∷ ts))) (p .0) (rises-taken (suc k) (u ∷ ts) (p .1))
 
-one-rises : (ts : List ℕ) → length ts ≤ 1 → ascending ts ≡ true
+pub one-rises : (ts : List ℕ) → length ts ≤ 1 → ascending ts ≡ true
 one-rises [] h = refl
 one-rises (t ∷ []) h = refl
 one-rises (t ∷ u ∷ ts) h = absurd (omega arith)

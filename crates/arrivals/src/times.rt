@@ -24,7 +24,14 @@ pub fn rise(parts: &[u8], order: u32, long: usize, trig: usize, count: usize) ->
 }
 
 // The same of the indices behind `skip`, `count` of them.
-fn rise_within(parts: &[u8], order: u32, long: usize, trig: usize, skip: usize, count: usize) -> bool
+fn rise_within(
+    parts: &[u8],
+    order: u32,
+    long: usize,
+    trig: usize,
+    skip: usize,
+    count: usize,
+) -> bool
     requires { ⌜ Timed order long trig (now parts) ⌝ }
     requires { ⌜ (skip + count ≤ length (partsIn (now parts))) × (count ≤ 64) ⌝ }
     ensures { λ r. ⌜ r ≡ ascending (take count (drop skip (timesAt order trig (now (parts .entry))))) ⌝ }

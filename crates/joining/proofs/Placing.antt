@@ -17,7 +17,7 @@ use Rattle.rules.proofs.Rows.{Rows}
 use Rattle.rules.proofs.Waves.{written-decode}
 use Rattle.rules.proofs.Opened.{ruled-opened}
 use Rattle.joining.specs.Join.{indexOf, indexed, partAt, byIndex, joined}
-use Rattle.joining.proofs.Lists.{Every, every-map, every-mapped, Every-upFrom, flatten-append}
+use Rattle.joining.proofs.Lists.{Every, map-every, every-mapped, Every-upFrom, flatten-append}
 use Rattle.joining.proofs.Index.{Once, Within, every-at-index, indexed-own, indexed-other, within, length-byIndex, byIndex-at}
 use Rattle.joining.proofs.Says.{Together}
 use Rattle.joining.proofs.Joined.{lead, size-alike}
@@ -63,10 +63,6 @@ bytes-tables o w f [] = refl
 bytes-tables o w f (v ∷ ws) =
     ap (allBytes o w) (flatten-append (f v) (flatten (map f ws))) ∙ bytes-append o w (flatten (f v)) (flatten (flatten (map f ws)))
     ∙ ap {B = List ℕ} (λ r. allBytes o w (flatten (f v)) ++ r) (bytes-tables o w f ws)
-
-map-every : {A B : Type 0} (f g : A → B) (xs : List A) → Every (λ x. f x ≡ g x) xs → map f xs ≡ map g xs
-map-every f g [] h = refl
-map-every {B = B} f g (x ∷ xs) h = ap₂ {C = List B} (λ y ys. y ∷ ys) (h .0) (map-every f g xs (h .1))
 
 module _ (ps : List (List ℕ)) (b : Every Bytes ps) (j : Together ps) where
   -- a table's bytes are the parts' own

@@ -40,8 +40,19 @@ zeros-ascend f (x ∷ []) h = refl
 zeros-ascend f (x ∷ y ∷ xs) h =
     λ i. not (lt (ofBits binary64 (h .1 .0 i)) (ofBits binary64 (h .0 i))) && zeros-ascend f (y ∷ xs) (h .1) i
 
+no-time : (t : List (List ℕ)) → length (flatten t) ≡ 0 → getD (getD t 0 []) 0 0 ≡ 0
+unfolding flatten
+no-time [] e = refl
+no-time ([] ∷ rs) e = refl
+no-time ((x ∷ r) ∷ rs) e = absurd (omega arith)
+
 module _ (ps : List (List ℕ)) (b : Every Bytes ps) (j : Together ps) where
   pub times-joined : triggerTimes (joined (wavesOf ps) .trig) ≡ timesOf ps
   unfolding joined
   times-joined =
       times-rows (trigWide (lead (wavesOf ps))) (wavesOf ps) (every-map (trig-row (lead (wavesOf ps))) (wavesOf ps) (all-parts ps b j)) ∙ map-map waveTime opened (byIndex ps)
+
+  pub times-none : trigLength (lead (wavesOf ps) .head) ≡ 0 → ascending (timesOf ps) ≡ true
+  times-none z =
+      ap ascending (sym (map-map waveTime opened (byIndex ps)))
+      ∙ zeros-ascend waveTime (wavesOf ps) (every-map (λ w p. no-time (w .trig) (omega (arith, p .fits .trig-length, p .head 48 refl))) (wavesOf ps) (all-parts ps b j))

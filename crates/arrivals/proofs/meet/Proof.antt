@@ -138,9 +138,9 @@ loop-again c =
     let start = t .before in
     let a = start .before .args in (
       next-met (a .parts .now) (bytes start) (start .before .pre .0) (first-good start) (a .first .start) (t .text-length .result) (lead-is start) (t .text-length .ensures)
-      (l .seen) (l .together) (l .count) (l .here) (l .inv .0) (p .before .loop-test .taken) (part-sound e) (p .part-at .result .start) (ap (λ (x : Part). x .start) (part-answer e))
-      (p .part-at .result .index) (c .before .belongs .result) (c .with-index2 .result) (ap (λ (x : Part). x .index) (part-answer e)) (c .before .belongs .ensures) (c .with-index2 .ensures)
-      (p .part-at .result .end) (ap (λ (x : Part). x .end) (part-answer e)),
+          (l .seen) (l .together) (l .count) (l .here) (l .inv .0) (p .before .loop-test .taken) (part-sound e) (p .part-at .result .start) (ap (λ (x : Part). x .start) (part-answer e))
+          (p .part-at .result .index) (c .before .belongs .result) (c .with-index2 .result) (ap (λ (x : Part). x .index) (part-answer e)) (c .before .belongs .ensures) (c .with-index2 .ensures)
+          (p .part-at .result .end) (ap (λ (x : Part). x .end) (part-answer e)),
       omega (arith, l .inv .1),
     )
 

@@ -1,0 +1,196 @@
+-- What writing the joined block needs (`fronting`, `sum`) and leaves (`front-written`), and what a join answers (`judge-refuses`, `block-refuses`, `short-refuses`, `joins`).
+use mathlib.Core.Path.{_≡_, refl, sym, ap, ap₂, _∙_, subst}
+use mathlib.Core.Logic.{_⊎_, inl, inr, _↔_}
+use Prim.Native.Nat.{ℕ, zero, suc, _+_, _-_, _*_, _≤_, _<_}
+use native.Mathlib.Omega.{arith}
+use mathlib.Core.Bool.{Bool, true, false, cond, false≢true}
+use mathlib.Core.List.{List, [], _∷_, _++_, map, flatten}
+use lib.ListN.{length, getD, take, drop, length-append, length-take}
+use lib.Seq.{take-all}
+use lib.Dec.{leb}
+use borrow.Author.Tests.{leb-true, leb-false, le-leb, lt-leb}
+use Rattle.rules.specs.Numbers.{Bytes, splice, unlessRefused}
+use Rattle.rules.specs.Template.{template, laid}
+use Rattle.rules.specs.Wave.{risLength, encode, framed}
+use Rattle.rules.specs.Rules.{all, refusal, opened}
+use Rattle.rules.specs.Cut.{changed, orElse}
+use Rattle.rules.proofs.Numbers.{length-laid}
+use Rattle.rules.proofs.Template.{total-template}
+use Rattle.rules.proofs.Opened.{fits-opened}
+use Rattle.block.specs.declared.Opened.{Opened}
+use Rattle.block.specs.Opened.{openedAs}
+use Rattle.copies.specs.Copies.{header}
+use Rattle.copies.proofs.Laws.{then}
+use Rattle.copies.proofs.Head.{length-header}
+use Rattle.heads.specs.Heads.{changesBy}
+use Rattle.joining.specs.Join.{partEnd, partsIn, byIndex, joined, joinedBytes, joining, joinRefusal}
+use Rattle.joining.proofs.Lists.{Every}
+use Rattle.joining.proofs.Parts.{parts-none, parts-next, parts-bytes}
+use Rattle.joining.proofs.Says.{Together, Joins, firstBad, firstBad-none, joined-tests, join-number}
+use Rattle.joining.proofs.Reading.{wavesOf}
+use Rattle.joining.proofs.Breaks.{joinedLength, length-block, block-good}
+use Rattle.parts.proofs.Tables.{first-bytes, first-good}
+use Rattle.arrivals.specs.declared.Judged.{Judged}
+use Rattle.arrivals.specs.Arrivals.{Judges}
+use Rattle.fronts.specs.Fronts.{changesFor, Fronting}
+use Rattle.joins.specs.declared.Joined.{Joined}
+use Rattle.joins.specs.Joins.{refusedAs, answer, joinedAs, outAs}
+use Rattle.joins.specs.Steps.{Gathered, totalBy, Ready, tableOf}
+use Rattle.joins.proofs.Tabled.{accepted, table-long}
+use Rattle.joins.proofs.Rising.{total-joined}
+use Rattle.joins.proofs.Whole.{whole}
+
+ris-times : (n x : ℕ) → (x ≡ 0) ⊎ (n ≡ 1) → n * x ≡ x
+ris-times n x (inl z) = ap (λ (y : ℕ). n * y) z ∙ omega (arith, z)
+ris-times n x (inr z) = ap (λ (m : ℕ). m * x) z ∙ omega arith
+
+-- the first part, by where it ends
+take-own : (k : ℕ) (s : List ℕ) → take (length (take k s)) s ≡ take k s
+take-own k s = go (leb k (length s)) refl
+  where
+    go : (t : Bool) → leb k (length s) ≡ t → take (length (take k s)) s ≡ take k s
+    go true e = let m : length (take k s) ≡ k = omega (arith, length-take k s, leb-true k (length s) e) in ap (λ (n : ℕ). take n s) m
+    go false e =
+        let l : length s < k = leb-false k (length s) e in
+        take-all (length (take k s)) s (omega (arith, length-take k s)) ∙ sym (take-all k s (omega arith))
+
+pub first-part : (s : List ℕ) (end : ℕ) → 1 ≤ length (partsIn s) → end ≡ length (getD (partsIn s) 0 []) → take (end - 0) (drop 0 s) ≡ getD (partsIn s) 0 []
+first-part [] end h e = absurd (omega (arith, ap length parts-none))
+first-part (x ∷ t) end h e =
+    let s : List ℕ = x ∷ t in
+    let f : getD (partsIn s) 0 [] ≡ take (partEnd s) s = ap (λ (ps : List (List ℕ)). getD ps 0 []) (parts-next s (omega arith)) in
+    let m : end - 0 ≡ length (take (partEnd s) s) = omega (arith, ap length f) in
+    ap (λ (n : ℕ). take n s) m ∙ take-own (partEnd s) s ∙ sym f
+
+-- ---- writing
+
+module _ (s : List ℕ) (b : Bytes s) (o : Opened) (n end total : ℕ) (g : Ready s o n end total) where
+  abbrev firstPart : List ℕ
+  firstPart = getD (partsIn s) 0 []
+
+  abbrev head : ℕ → ℕ
+  head = opened firstPart .head
+
+  fine : (joinedLength (length (partsIn s)) head ≤ 16777216) × ((risLength head ≡ 0) ⊎ (length (partsIn s) ≡ 1))
+  fine = let k = block-good (partsIn s) (parts-bytes s b) (g .gathered .together) .0 (g .block) in (k .0, k .1)
+
+  total-is : total ≡ joinedLength (length (partsIn s)) head
+  total-is = g .long ∙ total-joined s b o n end (g .gathered)
+
+  pub few : n ≤ 1000
+  few = omega (arith, g .gathered .count, g .gathered .together .most)
+
+  pub sum : (let l = o .layout .lengths in 357 + getD l 1 0 + n * getD l 3 0 + n * getD l 4 0 + n * getD l 6 0 + n * getD l 7 0) ≡ 11 + total
+  sum =
+      let r : n * getD (o .layout .lengths) 4 0 ≡ getD (o .layout .lengths) 4 0 =
+      ap₂ {C = ℕ} (λ m (x : Opened). m * getD (x .layout .lengths) 4 0) (g .gathered .count) (accepted s b o n end (g .gathered)) ∙ ris-times (length (partsIn s)) (head 52) (fine .1)
+      ∙ sym (ap (λ (x : Opened). getD (x .layout .lengths) 4 0) (accepted s b o n end (g .gathered))) in
+      omega (arith, g .long)
+
+  first-is : take (end - 0) (drop 0 s) ≡ firstPart
+  first-is = first-part s end (g .gathered .together .some) (g .gathered .ends)
+
+  pub fronting : Fronting (take (end - 0) (drop 0 s)) o n
+  fronting = subst (λ (p : List ℕ). Fronting p o n) (sym first-is) (record {
+    opens = g .gathered .opens;
+    good = first-good s b (g .gathered .together);
+    small = subst (λ (m : ℕ). joinedLength m head ≤ 16777216) (sym (g .gathered .count)) (fine .0);
+  })
+
+  pub front-written : (out : List ℕ) → 11 + total ≤ length out
+      → (let p = take (end - 0) (drop 0 s) in
+      splice (splice out 0 (header total ++ laid (opened p .head 34) template (changed (changesBy (opened p .head 34) (changesFor n (opened p .head))) (opened p .head)) ++ opened p .text)) (357 + getD (o .layout .lengths) 1 0)
+      (tableOf 3 s ++ tableOf 4 s ++ tableOf 6 s ++ tableOf 7 s))
+      ≡ splice out 0 (joinedBytes (partsIn s))
+  front-written out h =
+      let tables : List ℕ = tableOf 3 s ++ tableOf 4 s ++ tableOf 6 s ++ tableOf 7 s in
+      let hd : ℕ → List ℕ = λ m. laid (head 34) template (changed (changesBy (head 34) (changesFor m head)) head) in
+      let front : ℕ → List ℕ = λ m. header total ++ hd m ++ opened firstPart .text in
+      let at : ℕ = 357 + getD (o .layout .lengths) 1 0 in
+      let text : length (opened firstPart .text) ≡ getD (o .layout .lengths) 1 0 =
+      sym (ap (λ (x : Opened). getD (x .layout .lengths) 1 0) (accepted s b o n end (g .gathered)) ∙ fits-opened firstPart (first-bytes s b (g .gathered .together)) (first-good s b (g .gathered .together)) .text-length) in
+      let long : length (front n) ≡ at =
+      omega (arith, length-append (header total ++ hd n) (opened firstPart .text), length-append (header total) (hd n), length-header total, length-laid (head 34) template (changed (changesBy (head 34) (changesFor n head)) head) ∙ total-template, text) in
+      let z : at ≡ 0 + at = omega arith in
+      let ris : length (tableOf 4 s) ≡ length (partsIn s) * head 52 =
+      table-long s b o n end (g .gathered) 4 (omega arith) ∙ ap₂ {C = ℕ} (λ m (x : Opened). m * getD (x .layout .lengths) 4 0) (g .gathered .count) (accepted s b o n end (g .gathered)) in
+      ap (λ (p : List ℕ). splice (splice out 0 (header total ++ laid (opened p .head 34) template (changed (changesBy (opened p .head 34) (changesFor n (opened p .head))) (opened p .head)) ++ opened p .text)) at tables) first-is
+      ∙ ap (λ (k : ℕ). splice (splice out 0 (front n)) k tables) z
+      ∙ then out 0 at (front n) tables long (omega (arith, sum))
+      ∙ ap (λ (m : ℕ). splice out 0 (front m ++ tables)) (g .gathered .count)
+      ∙ ap (splice out 0) (whole (partsIn s) (parts-bytes s b) (g .gathered .together) total total-is ris (fine .1))
+
+-- ---- the answer
+
+answered : (m : ℕ) (w : Joined) (count long : ℕ) → (m ≡ 0 → ⊥) → w ≡ refusedAs m → w ≡ answer m count long
+answered zero w count long h e = absurd (h refl)
+answered (suc m) w count long h e = e
+
+kept : (m : ℕ) (new old : List ℕ) → (m ≡ 0 → ⊥) → old ≡ unlessRefused m new old
+kept zero new old h = absurd (h refl)
+kept (suc m) new old h = refl
+
+module _ (s : List ℕ) (b : Bytes s) (out : List ℕ) where
+  refuses : (m : ℕ) → m ≡ joinRefusal s (length out) → (m ≡ 0 → ⊥) → (w : Joined) → w ≡ refusedAs m → (w ≡ joinedAs s (length out)) × (out ≡ outAs s out)
+  unfolding joinedAs outAs
+  refuses m e h w q = (
+    answered m w (length (partsIn s)) (length (joinedBytes (partsIn s))) h q ∙ ap (λ (k : ℕ). answer k (length (partsIn s)) (length (joinedBytes (partsIn s)))) e,
+    kept m (splice out 0 (joinedBytes (partsIn s))) out h ∙ ap (λ (k : ℕ). unlessRefused k (splice out 0 (joinedBytes (partsIn s))) out) e,
+  )
+
+  module _ (r : Judged) (j : Judges s r) where
+    pub judge-refuses : (r .refusal ≡ 0 → ⊥) → (w : Joined) → w ≡ refusedAs (r .refusal) → (w ≡ joinedAs s (length out)) × (out ≡ outAs s out)
+    judge-refuses h = refuses (r .refusal) (sym (j .refused (omega (arith, h)) (length out))) h
+
+    module _ (z : r .refusal ≡ 0) where
+      pub count-few : r .count ≤ 1000
+      count-few = omega (arith, j .count z, j .together z .most)
+
+      pub some-parts : 1 ≤ length (partsIn s)
+      some-parts = j .together z .some
+
+      pub gathered : (o : Opened) → o ≡ openedAs (take (r .end - 0) (drop 0 s)) → Gathered s o (r .count) (r .end)
+      gathered o e = record { together = j .together z; opens = e ∙ ap openedAs (first-part s (r .end) some-parts (j .ends z)); count = j .count z; ends = j .ends z }
+
+      none-bad : firstBad (partsIn s) ≡ 0
+      none-bad = firstBad-none (partsIn s) .1 (j .together z .good)
+
+      -- the joined block breaks a rule
+      pub block-refuses : (refusal (joinedBytes (partsIn s)) ≡ 0 → ⊥) → (w : Joined) → w ≡ refusedAs 16 → (w ≡ joinedAs s (length out)) × (out ≡ outAs s out)
+      block-refuses h = refuses 16 (sym (join-number s (length out) ∙ ap₂ {C = ℕ} (λ x t. orElse x (cond t (cond (leb (length (joinedBytes (partsIn s))) (length out)) 0 13) 16)) none-bad (go (all (joining (partsIn s))) refl))) (λ y. omega (arith, y))
+        where
+          go : (t : Bool) → all (joining (partsIn s)) ≡ t → all (joining (partsIn s)) ≡ false
+          go true e = absurd (h (joined-tests (partsIn s) (j .together z .good) .0 e .block))
+          go false e = e
+
+      module _ (o : Opened) (opens : o ≡ openedAs (take (r .end - 0) (drop 0 s))) (total : ℕ) (t : total ≡ totalBy o (r .count)) (block : refusal (joinedBytes (partsIn s)) ≡ 0) where
+        pub ready : Ready s o (r .count) (r .end) total
+        ready = record { gathered = gathered o opens; block = block; long = t }
+
+        total-of : total ≡ joinedLength (length (partsIn s)) (opened (getD (partsIn s) 0 []) .head)
+        total-of = t ∙ total-joined s b o (r .count) (r .end) (gathered o opens)
+
+        pub total-small : total ≤ 16777216
+        total-small = omega (arith, total-of, block-good (partsIn s) (parts-bytes s b) (j .together z) .0 block .0)
+
+        long-is : length (joinedBytes (partsIn s)) ≡ total + 11
+        unfolding joinedBytes framed header
+        long-is =
+            let e : List ℕ = encode (joined (wavesOf (partsIn s))) in
+            let l : length (header (length e) ++ e) ≡ length (header (length e)) + length e = length-append (header (length e)) e in
+            l ∙ omega (arith, length-header (length e), length-block (partsIn s) (parts-bytes s b) (j .together z), total-of)
+
+        number-by : (u : Bool) → leb (length (joinedBytes (partsIn s))) (length out) ≡ u → cond u 0 13 ≡ joinRefusal s (length out)
+        number-by u q =
+            sym (join-number s (length out) ∙ λ i. orElse (none-bad i) (cond (joined-tests (partsIn s) (j .together z .good) .1 (record { together = j .together z; block = block }) i) (cond (q i) 0 13) 16))
+
+        pub short-refuses : length out < total + 11 → (w : Joined) → w ≡ refusedAs 13 → (w ≡ joinedAs s (length out)) × (out ≡ outAs s out)
+        short-refuses h = refuses 13 (number-by false (lt-leb (length (joinedBytes (partsIn s))) (length out) (omega (arith, long-is)))) (λ y. omega (arith, y))
+
+        pub joins : total + 11 ≤ length out → (record { refusal = 0; count = r .count; length = total + 11 } ≡ joinedAs s (length out)) × (splice out 0 (joinedBytes (partsIn s)) ≡ outAs s out)
+        unfolding joinedAs outAs
+        joins h =
+            let e : 0 ≡ joinRefusal s (length out) = number-by true (le-leb (length (joinedBytes (partsIn s))) (length out) (omega (arith, long-is))) in (
+              ap₂ {C = Joined} (λ x y. record { refusal = 0; count = x; length = y }) (j .count z) (sym long-is) ∙ ap (λ (k : ℕ). answer k (length (partsIn s)) (length (joinedBytes (partsIn s)))) e,
+              ap (λ (k : ℕ). unlessRefused k (splice out 0 (joinedBytes (partsIn s))) out) e,
+            )

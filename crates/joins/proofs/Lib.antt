@@ -1,0 +1,4 @@
+pub mod Tabled
+pub mod Rising
+pub mod Whole
+pub mod Joining

@@ -1,0 +1,104 @@
+-- The tables by index: each can be placed by the first part's layout (`can-place`), is what the joined block has (`placed`), and is n times as long as the first's (`table-long`).
+use mathlib.Core.Path.{_≡_, refl, sym, ap, ap₂, _∙_, subst}
+use Prim.Native.Nat.{ℕ, suc, _+_, _-_, _*_, _≤_, _<_}
+use native.Mathlib.Nat.{suc-mul}
+use native.Mathlib.Omega.{arith}
+use mathlib.Core.List.{List, [], _∷_, _++_, map, flatten}
+use lib.ListN.{length, getD, take, drop, length-append, length-take}
+use lib.Seq.{take-all}
+use Rattle.rules.specs.Numbers.{Bytes, splice}
+use Rattle.rules.specs.Wave.{orderOf, lengthsOf, startsOf}
+use Rattle.rules.specs.Rules.{payloadStart, stated, refusal, opened}
+use Rattle.block.specs.declared.Opened.{Opened}
+use Rattle.block.specs.Opened.{layoutOf, calibrationOf, acceptedAs}
+use Rattle.block.proofs.Answers.{accepted-as}
+use Rattle.copies.proofs.Laws.{then, splice-none, length-part}
+use Rattle.joining.specs.Join.{partEnd, partsIn, byIndex}
+use Rattle.joining.proofs.Lists.{Every, every-map, no-elements}
+use Rattle.joining.proofs.Parts.{parts-none, parts-next}
+use Rattle.joining.proofs.Index.{length-byIndex, every-byIndex}
+use Rattle.joining.proofs.Placing.{stretch}
+use Rattle.parts.specs.Parts.{Placeable, rowOf, rowsOf}
+use Rattle.parts.proofs.Tables.{first-bytes, first-good, first-ends, placeable, table-rows, stretch-ends}
+use Rattle.joins.specs.Steps.{Gathered, tableOf}
+
+flat-length : (f : List ℕ → List ℕ) (w : ℕ) (xs : List (List ℕ)) → Every (λ p. length (f p) ≡ w) xs → length (flatten (map f xs)) ≡ length xs * w
+unfolding flatten
+flat-length f w [] h = omega arith
+flat-length f w (x ∷ xs) h = omega (arith, length-append (f x) (flatten (map f xs)), h .0, flat-length f w xs (h .1), suc-mul (length xs) w)
+
+-- four lists written one behind the other
+pub four : (l : List ℕ) (at m n k : ℕ) (ws xs ys zs : List ℕ) → length ws ≡ m → length xs ≡ n → length ys ≡ k → at + m + n + k ≤ length l
+    → splice (splice (splice (splice l at ws) (at + m) xs) (at + m + n) ys) (at + m + n + k) zs ≡ splice l at (ws ++ xs ++ ys ++ zs)
+four l at m n k ws xs ys zs em en ek h =
+    let a : at + m + n ≡ at + (m + n) = omega arith in
+    let c : at + m + n + k ≡ at + (m + n + k) = omega arith in
+    let p : length (ws ++ xs) ≡ m + n = omega (arith, length-append ws xs) in
+    let q : length (ws ++ xs ++ ys) ≡ m + n + k = omega (arith, length-append (ws ++ xs) ys) in
+    (λ i. splice (splice (then l at m ws xs em (omega arith) i) (a i) ys) (c i) zs)
+    ∙ ap (λ (r : List ℕ). splice r (at + (m + n + k)) zs) (then l at (m + n) (ws ++ xs) ys p (omega arith))
+    ∙ then l at (m + n + k) (ws ++ xs ++ ys) zs q (omega arith)
+
+-- the first part stands at the slice's start
+module _ (s : List ℕ) where
+  pub first-within : length (getD (partsIn s) 0 []) ≤ length s
+  first-within = go s
+    where
+      go : (s : List ℕ) → length (getD (partsIn s) 0 []) ≤ length s
+      go [] = omega (arith, ap (λ (ps : List (List ℕ)). length (getD ps 0 [])) parts-none)
+      go (x ∷ s) = let p : List ℕ = x ∷ s in omega (arith, ap (λ (ps : List (List ℕ)). length (getD ps 0 [])) (parts-next p (omega arith)), length-take (partEnd p) p)
+
+module _ (s : List ℕ) (b : Bytes s) (o : Opened) (n end : ℕ) (g : Gathered s o n end) where
+  abbrev firstPart : List ℕ
+  firstPart = getD (partsIn s) 0 []
+
+  pub accepted : o ≡ acceptedAs (payloadStart firstPart) (opened firstPart .head) (layoutOf (opened firstPart .head)) (calibrationOf (opened firstPart .head))
+  accepted = accepted-as firstPart o (g .opens) (first-good s b (g .together))
+
+  -- L of the parts
+  pub long-is : end - o .start ≡ stated firstPart
+  long-is =
+      let q : o .start ≡ payloadStart firstPart = ap (λ (x : Opened). x .start) accepted in
+      omega (arith, q, g .ends, first-ends s b (g .together))
+
+  pub start-within : o .start ≤ end
+  start-within =
+      let q : o .start ≡ payloadStart firstPart = ap (λ (x : Opened). x .start) accepted in
+      omega (arith, q, g .ends, first-ends s b (g .together))
+
+  pub can-place : Placeable (o .order) (end - o .start) s
+  can-place = subst (λ (x : ℕ). Placeable x (end - o .start) s) (sym (ap (λ (x : Opened). x .order) accepted)) (subst (λ (x : ℕ). Placeable (orderOf (opened firstPart .head)) x s) (sym long-is) (placeable s b (g .together)))
+
+  module _ (i : ℕ) (l : i < 10) where
+    pub row-ends : getD (o .layout .starts) i 0 + getD (o .layout .lengths) i 0 ≤ end - o .start
+    unfolding startsOf
+    row-ends =
+        subst (λ (x : Opened). getD (x .layout .starts) i 0 + getD (x .layout .lengths) i 0 ≤ end - o .start) (sym accepted)
+        (subst (λ (x : ℕ). getD (startsOf (opened firstPart .head)) i 0 + getD (lengthsOf (opened firstPart .head)) i 0 ≤ x) (sym long-is) (stretch-ends firstPart (first-bytes s b (g .together)) (first-good s b (g .together)) i l))
+
+    rows-are : flatten (map (rowOf (getD (o .layout .starts) i 0) (getD (o .layout .lengths) i 0)) (byIndex (partsIn s))) ≡ tableOf i s
+    unfolding startsOf
+    rows-are =
+        ap (λ (x : Opened). flatten (map (rowOf (getD (x .layout .starts) i 0) (getD (x .layout .lengths) i 0)) (byIndex (partsIn s)))) accepted
+        ∙ ap (flatten {A = ℕ}) (table-rows s b (g .together) i l)
+
+    pub placed : rowsOf (getD (o .layout .starts) i 0) (getD (o .layout .lengths) i 0) 0 n s ≡ tableOf i s
+    placed =
+        ap (λ (ps : List (List ℕ)). flatten (map (rowOf (getD (o .layout .starts) i 0) (getD (o .layout .lengths) i 0)) ps)) (take-all n (byIndex (partsIn s)) (omega (arith, g .count, length-byIndex (partsIn s))))
+        ∙ rows-are
+
+    pub table-long : length (tableOf i s) ≡ n * getD (o .layout .lengths) i 0
+    table-long =
+        let from : ℕ = getD (o .layout .starts) i 0 in
+        let size : ℕ = getD (o .layout .lengths) i 0 in
+        sym (ap length rows-are)
+        ∙ flat-length (rowOf from size) size (byIndex (partsIn s))
+        (every-byIndex (λ p. length (rowOf from size p) ≡ size) (partsIn s) (g .together .once) (every-map (λ p r. length-part p (payloadStart p + from) size (omega (arith, r .whole, row-ends))) (partsIn s) (can-place .sound)))
+        ∙ ap (λ (m : ℕ). m * size) (length-byIndex (partsIn s) ∙ sym (g .count))
+
+    -- nothing is written of a table that is not there
+    pub table-none : (out : List ℕ) (at : ℕ) → getD (o .layout .lengths) i 0 < 1 → out ≡ splice out at (tableOf i s)
+    table-none out at z =
+        let e : getD (o .layout .lengths) i 0 ≡ 0 = omega arith in
+        let m : length (tableOf i s) ≡ 0 = table-long ∙ ap (λ (x : ℕ). n * x) e ∙ omega arith in
+        splice-none out at ∙ ap (splice out at) (sym (no-elements (tableOf i s) m))

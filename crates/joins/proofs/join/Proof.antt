@@ -1,0 +1,164 @@
+-- The number that judging gives, 16 by the joined block's own rules, 13, and the block.
+use mathlib.Core.Path.{_≡_, sym, ap, _∙_}
+use Prim.Native.Nat.{_+_, _≤_}
+use native.Mathlib.Omega.{arith}
+use mathlib.Core.Bool.{true, false, false≢true}
+use borrow.Author.Tests.{not-true, not-false}
+use Rattle.rules.specs.Numbers.{Bytes}
+use Rattle.rules.proofs.Numbers.{below-index}
+use borrow.Author.Needs.{needs}
+use Rattle.joins.proofs.Tabled.{first-within}
+use Rattle.joins.proofs.Joining.{judge-refuses, count-few, gathered, block-refuses, ready, total-small, short-refuses, joins}
+use Rattle.joins.proofs.join.Statement.{statement}
+use Rattle.joins.proofs.join.Tie as tie
+
+bytes : (c : tie.After-shared-slice-known) → Bytes (c .before .args .parts .now)
+bytes c = below-index 256 (c .before .args .parts .now) (λ i h. c .shared-slice-known .given i .fits)
+
+judge-requires : tie.Need-judge-requires
+judge-requires c κs = search needs
+
+refused-requires : tie.Need-refused-requires
+refused-requires c κs = search needs
+
+returns : tie.Need-returns
+returns c =
+    let y = c .before .before .before .before in
+    let a = y .before .args in
+    let j = c .before .before .judge in
+    judge-refuses (a .parts .now) (bytes y) (a .out .now) (j .result) (j .ensures) (c .before .if1 .taken) (c .refused .result) (c .refused .ensures)
+
+sub-open : tie.Need-sub-open
+sub-open c = search needs
+
+part-open-start : tie.Need-part-open-start
+part-open-start c = search needs
+
+part-open-end : tie.Need-part-open-end
+part-open-end c = omega (arith, c .before .judge .ensures .ends (c .if1 .left), first-within (c .before .before .before .before .args .parts .now))
+
+open-requires : tie.Need-open-requires
+open-requires c κs = search needs
+
+total-of-requires : tie.Need-total-of-requires
+total-of-requires c κs =
+    let y = c .before .before .before .before .before in
+    let a = y .before .args in
+    let j = c .before .before .before .judge in
+    count-few (a .parts .now) (bytes y) (a .out .now) (j .result) (j .ensures) (c .before .before .if1 .left)
+
+is-block-requires : tie.Need-is-block-requires
+is-block-requires c κs =
+    let y = c .before .before .before .before .before .before in
+    let a = y .before .args in
+    let j = c .before .before .before .before .judge in
+    let o = c .before .«open» in
+    (gathered (a .parts .now) (bytes y) (a .out .now) (j .result) (j .ensures) (c .before .before .before .if1 .left) (o .result) (o .ensures), c .total-of .ensures)
+
+refused-requires-2 : tie.Need-refused-requires-2
+refused-requires-2 c κs = search needs
+
+returns-2 : tie.Need-returns-2
+returns-2 c =
+    let y = c .before .before .before .before .before .before .before .before .before in
+    let a = y .before .args in
+    let j = c .before .before .before .before .before .before .before .judge in
+    let k = c .before .before .is-block in
+    block-refuses (a .parts .now) (bytes y) (a .out .now) (j .result) (j .ensures) (c .before .before .before .before .before .before .if1 .left) (λ e. false≢true (sym (not-true (k .result) (c .before .if2 .taken)) ∙ k .ensures .1 e)) (c .refused2 .result) (c .refused2 .ensures)
+
+add-if3 : tie.Need-add-if3
+add-if3 c =
+    let y = c .before .before .before .before .before .before .before .before in
+    let a = y .before .args in
+    let j = c .before .before .before .before .before .before .judge in
+    let o = c .before .before .before .«open» in
+    let k = c .before .is-block in
+    omega (arith, total-small (a .parts .now) (bytes y) (a .out .now) (j .result) (j .ensures) (c .before .before .before .before .before .if1 .left) (o .result) (o .ensures) (c .before .before .total-of .result) (c .before .before .total-of .ensures) (k .ensures .0 (not-false (k .result) (c .if2 .left))))
+
+refused-requires-3 : tie.Need-refused-requires-3
+refused-requires-3 c κs = search needs
+
+returns-3 : tie.Need-returns-3
+returns-3 c =
+    let y = c .before .before .before .before .before .before .before .before .before .before in
+    let a = y .before .args in
+    let j = c .before .before .before .before .before .before .before .before .judge in
+    let o = c .before .before .before .before .before .«open» in
+    let k = c .before .before .before .is-block in
+    short-refuses (a .parts .now) (bytes y) (a .out .now) (j .result) (j .ensures) (c .before .before .before .before .before .before .before .if1 .left) (o .result) (o .ensures) (c .before .before .before .before .total-of .result) (c .before .before .before .before .total-of .ensures) (k .ensures .0 (not-false (k .result) (c .before .before .if2 .left))) (c .before .if3 .taken) (c .refused3 .result) (c .refused3 .ensures)
+
+cast-write-joined : tie.Need-cast-write-joined
+cast-write-joined c =
+    let y = c .before .before .before .before .before .before .before .before .before in
+    let a = y .before .args in
+    let j = c .before .before .before .before .before .before .before .judge in
+    let o = c .before .before .before .before .«open» in
+    let k = c .before .before .is-block in
+    omega (arith, total-small (a .parts .now) (bytes y) (a .out .now) (j .result) (j .ensures) (c .before .before .before .before .before .before .if1 .left) (o .result) (o .ensures) (c .before .before .before .total-of .result) (c .before .before .before .total-of .ensures) (k .ensures .0 (not-false (k .result) (c .before .if2 .left))))
+
+write-joined-requires : tie.Need-write-joined-requires
+write-joined-requires c κs =
+    let y = c .before .before .before .before .before .before .before .before .before .before in
+    let a = y .before .args in
+    let j = c .before .before .before .before .before .before .before .before .judge in
+    let o = c .before .before .before .before .before .«open» in
+    let k = c .before .before .before .is-block in
+    (ready (a .parts .now) (bytes y) (a .out .now) (j .result) (j .ensures) (c .before .before .before .before .before .before .before .if1 .left) (o .result) (o .ensures) (c .before .before .before .before .total-of .result) (c .before .before .before .before .total-of .ensures) (k .ensures .0 (not-false (k .result) (c .before .before .if2 .left))), omega (arith, c .before .if3 .left))
+
+cast-t17 : tie.Need-cast-t17
+cast-t17 c =
+    let y = c .before .before .before .before .before .before .before .before .before .before .before .before .before in
+    let a = y .before .args in
+    let j = c .before .before .before .before .before .before .before .before .before .before .before .judge in
+    omega (arith, count-few (a .parts .now) (bytes y) (a .out .now) (j .result) (j .ensures) (c .before .before .before .before .before .before .before .before .before .before .if1 .left))
+
+add-t11 : tie.Need-add-t11
+add-t11 c = search needs
+
+cast-t20 : tie.Need-cast-t20
+cast-t20 c =
+    let y = c .before .before .before .before .before .before .before .before .before .before .before .before .before in
+    let a = y .before .args in
+    let j = c .before .before .before .before .before .before .before .before .before .before .before .judge in
+    let o = c .before .before .before .before .before .before .before .before .«open» in
+    let k = c .before .before .before .before .before .before .is-block in
+    omega (arith, total-small (a .parts .now) (bytes y) (a .out .now) (j .result) (j .ensures) (c .before .before .before .before .before .before .before .before .before .before .if1 .left) (o .result) (o .ensures) (c .before .before .before .before .before .before .before .total-of .result) (c .before .before .before .before .before .before .before .total-of .ensures) (k .ensures .0 (not-false (k .result) (c .before .before .before .before .before .if2 .left))))
+
+same-length : tie.Need-same-length
+same-length c = search needs
+
+returns-4 : tie.Need-returns-4
+returns-4 c =
+    let y = c .before .before .before .before .before .before .before .before .before .before .before .before .before in
+    let a = y .before .args in
+    let j = c .before .before .before .before .before .before .before .before .before .before .before .judge in
+    let o = c .before .before .before .before .before .before .before .before .«open» in
+    let k = c .before .before .before .before .before .before .is-block in
+    let done = joins (a .parts .now) (bytes y) (a .out .now) (j .result) (j .ensures) (c .before .before .before .before .before .before .before .before .before .before .if1 .left) (o .result) (o .ensures) (c .before .before .before .before .before .before .before .total-of .result) (c .before .before .before .before .before .before .before .total-of .ensures) (k .ensures .0 (not-false (k .result) (c .before .before .before .before .before .if2 .left))) (omega (arith, c .before .before .before .before .if3 .left)) in
+    (done .0, c .before .before .write-joined .ensures ∙ done .1)
+
+pub join-spec : {M : Type 1} → statement M
+join-spec =
+    tie.close
+    (tie.spec
+    judge-requires
+    refused-requires
+    returns
+    sub-open
+    part-open-start
+    part-open-end
+    open-requires
+    total-of-requires
+    is-block-requires
+    refused-requires-2
+    returns-2
+    add-if3
+    refused-requires-3
+    returns-3
+    cast-write-joined
+    write-joined-requires
+    cast-t17
+    add-t11
+    cast-t20
+    same-length
+    returns-4)
