@@ -114,6 +114,15 @@ module _ (s : List ℕ) (room : ℕ) where
       and-end true = refl
       and-end false = refl
 
+  -- 13 stands behind the number that is given without it
+  pub join-room : joinRefusal s room ≡ orElse (orElse (firstBad (partsIn s)) (cond (all (joining (partsIn s))) 0 16)) (cond (leb (length (joinedBytes (partsIn s))) room) 0 13)
+  join-room = join-number ∙ go (firstBad (partsIn s)) (all (joining (partsIn s))) (cond (leb (length (joinedBytes (partsIn s))) room) 0 13)
+    where
+      go : (n : ℕ) (t : Bool) (r : ℕ) → orElse n (cond t r 16) ≡ orElse (orElse n (cond t 0 16)) r
+      go zero true r = refl
+      go zero false r = refl
+      go (suc n) t r = refl
+
   pub join-says : joinRefusal s room ≡ 0 → Joins (partsIn s) × (length (joinedBytes (partsIn s)) ≤ room)
   join-says e = go (firstBad (partsIn s)) refl (all (joining (partsIn s))) refl (leb (length (joinedBytes (partsIn s))) room) refl (sym join-number ∙ e)
     where

@@ -126,16 +126,16 @@ answered : (m : ℕ) (w : Joined) (count long : ℕ) → (m ≡ 0 → ⊥) → w
 answered zero w count long h e = absurd (h refl)
 answered (suc m) w count long h e = e
 
-kept : (m : ℕ) (new old : List ℕ) → (m ≡ 0 → ⊥) → old ≡ unlessRefused m new old
-kept zero new old h = absurd (h refl)
-kept (suc m) new old h = refl
+pub left-alone : (m : ℕ) (new old : List ℕ) → (m ≡ 0 → ⊥) → old ≡ unlessRefused m new old
+left-alone zero new old h = absurd (h refl)
+left-alone (suc m) new old h = refl
 
 module _ (s : List ℕ) (b : Bytes s) (out : List ℕ) where
   refuses : (m : ℕ) → m ≡ joinRefusal s (length out) → (m ≡ 0 → ⊥) → (w : Joined) → w ≡ refusedAs m → (w ≡ joinedAs s (length out)) × (out ≡ outAs s out)
   unfolding joinedAs outAs
   refuses m e h w q = (
     answered m w (length (partsIn s)) (length (joinedBytes (partsIn s))) h q ∙ ap (λ (k : ℕ). answer k (length (partsIn s)) (length (joinedBytes (partsIn s)))) e,
-    kept m (splice out 0 (joinedBytes (partsIn s))) out h ∙ ap (λ (k : ℕ). unlessRefused k (splice out 0 (joinedBytes (partsIn s))) out) e,
+    left-alone m (splice out 0 (joinedBytes (partsIn s))) out h ∙ ap (λ (k : ℕ). unlessRefused k (splice out 0 (joinedBytes (partsIn s))) out) e,
   )
 
   module _ (r : Judged) (j : Judges s r) where

@@ -2,3 +2,4 @@ pub mod Tabled
 pub mod Rising
 pub mod Whole
 pub mod Joining
+pub mod Calls

@@ -1,7 +1,9 @@
 pub mod Writing
 pub mod Slices
 pub mod Filling
+pub mod Pairs
 pub mod Cutting
+pub mod Joining
 pub mod Learnt
 pub mod Determined
 pub mod Headers

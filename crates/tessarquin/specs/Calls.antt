@@ -10,6 +10,7 @@ use Rattle.rules.specs.Wave.{orderOf, segments, points, firstPoint, sparsing, s
 use Rattle.rules.specs.Rules.{payloadStart, refusal, opened}
 use Rattle.rules.specs.Points.{value, time, mark, markNumber, markCount, pointRefusal, walkRefusal}
 use Rattle.rules.specs.Cut.{Setup, orElse, count, cutBytes, cutRefusal}
+use Rattle.joining.specs.Join.{partsIn, joinedBytes, joinRefusal}
 use Rattle.block.specs.Opened.{arraysOf}
 use Rattle.block.specs.Texts.{textOf, textStart, traceLabel, upToZero, orOther}
 
@@ -75,6 +76,21 @@ cutLeft s c q out second = leftBy (cutNumber s c q (length out) second) (cutByte
 
 unfoldable pub cutAnswerLeft : List ℕ → Setup → ℕ → ℕ → List ℕ → List ℕ
 cutAnswerLeft s c q room answer = leftBy (cutNumber s c q room (length answer)) (cutAnswer s c q) answer
+
+-- ---- a join of the parts s: the block to one slice, n and the block's length to the other
+
+abbrev pub joinAnswer : List ℕ → List ℕ
+joinAnswer s = allBytes 0 8 (length (partsIn s) ∷ length (joinedBytes (partsIn s)) ∷ [])
+
+-- 13 of the one slice is in the join's own number
+unfoldable pub joinNumber : List ℕ → ℕ → ℕ → ℕ
+joinNumber s room second = orRoom (joinRefusal s room) (joinAnswer s) second
+
+unfoldable pub joinLeft : List ℕ → List ℕ → ℕ → List ℕ
+joinLeft s out second = leftBy (joinNumber s (length out) second) (joinedBytes (partsIn s)) out
+
+unfoldable pub joinAnswerLeft : List ℕ → ℕ → List ℕ → List ℕ
+joinAnswerLeft s room answer = leftBy (joinNumber s room (length answer)) (joinAnswer s) answer
 
 -- ---- the layout: where the payload starts, F, S, SEGMENT_INDEX, SUBARRAY_COUNT, the ten lengths, and where each part starts in the payload
 
