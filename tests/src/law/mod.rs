@@ -8,6 +8,7 @@
 pub mod calls;
 pub mod cut;
 pub mod descriptor;
+pub mod join;
 pub mod numbers;
 pub mod places;
 pub mod points;
