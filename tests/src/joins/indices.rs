@@ -9,15 +9,12 @@ use crate::random::Random;
 pub static EDGES: &[Edge] = &[
     edge(0, "one part", one, as_they_are),
     edge(0, "two parts", two, as_they_are),
-    edge(0, "parts in the order of their indices", three_or_more, |p, _| sort(p)),
+    edge(0, "parts in the order of their indices", three_or_more, |p, _| p.sort()),
     edge(0, "parts in the order turned round", three_or_more, |p, _| {
-        sort(p);
+        p.sort();
         p.drafts.reverse();
     }),
-    edge(0, "parts rotated by one", three_or_more, |p, _| {
-        sort(p);
-        p.drafts.rotate_left(1);
-    }),
+    edge(0, "the first part last", three_or_more, |p, _| p.sort_first_last()),
     edge(16, "no parts", any, |p, _| p.drafts.clear()),
     edge(16, "the first index missing", two_or_more, |p, _| remove(p, 1)),
     edge(16, "an index missing within", three_or_more, |p, r| {
@@ -84,10 +81,6 @@ fn set_index(draft: &mut Draft, index: i64) {
 
 fn add_to_index(draft: &mut Draft, more: i64) {
     set_index(draft, index(draft) + more);
-}
-
-fn sort(parts: &mut Parts) {
-    parts.drafts.sort_by_key(index);
 }
 
 fn remove(parts: &mut Parts, gone: i64) {

@@ -38,7 +38,7 @@ pub static EDGES: &[Edge] = &[
         "1,001 parts, the last cut short",
         |n, r| many(n, r, 1001),
         |p, _| {
-            p.kept = Some(p.bytes().len() - 1);
+            p.drop_last_byte();
         },
     ),
     edge(

@@ -132,6 +132,18 @@ impl Parts {
         self.drafts.iter().find(|draft| draft.long(SEGMENT_INDEX) == index)
     }
 
+    /// Brings the parts in the order of their indices.
+    pub fn sort(&mut self) {
+        self.drafts.sort_by_key(|draft| draft.long(SEGMENT_INDEX));
+    }
+
+    /// The same, but that the first comes last.
+    pub fn sort_first_last(&mut self) {
+        self.sort();
+        let one = self.drafts.len().min(1);
+        self.drafts.rotate_left(one);
+    }
+
     /// Changes each part.
     pub fn each(&mut self, change: impl FnMut(&mut Draft)) {
         self.drafts.iter_mut().for_each(change);
@@ -169,6 +181,11 @@ impl Parts {
     /// The highest index of right parts: how many there are.
     pub fn count(&self) -> i64 {
         self.drafts.len() as i64
+    }
+
+    /// Ends the slice one byte early.
+    pub fn drop_last_byte(&mut self) {
+        self.kept = self.bytes().len().checked_sub(1);
     }
 
     /// Where the last part starts in the slice.

@@ -71,7 +71,7 @@ pub static EDGES: &[Edge] = &[
         p.first(|d| add_to_stated(d, next));
     }),
     // Where the slice ends
-    edge(2, "the last byte missing", any, |p, _| p.kept = Some(p.bytes().len().max(1) - 1)),
+    edge(2, "the last byte missing", any, |p, _| p.drop_last_byte()),
     edge(2, "the last payload cut short", any, |p, r| {
         let header = p.drafts.last().map_or(0, Draft::header_len);
         keep(p, r, header, |payload| payload);
@@ -97,7 +97,7 @@ pub static EDGES: &[Edge] = &[
     }),
     edge(8, "a gain in the first, the last cut short", two_or_more, |p, _| {
         p.first(|d| d.set_float(VERTICAL_GAIN, 0x7F80_0000));
-        p.kept = Some(p.bytes().len() - 1);
+        p.drop_last_byte();
     }),
 ];
 

@@ -43,13 +43,11 @@ pub static EDGES: &[Edge] = &[
     }),
     edge(16, "all turned round", trigtime, |p, _| set_times(p, |index| -index as f64)),
     edge(16, "in order as they come, not by index", trigtime_of_three, |p, _| {
-        p.drafts.sort_by_key(|draft| draft.long(SEGMENT_INDEX));
-        p.drafts.rotate_left(1);
+        p.sort_first_last();
         set_in_order_of_arrival(p);
     }),
     edge(0, "in order by index, not as they come", trigtime_of_three, |p, _| {
-        p.drafts.sort_by_key(|draft| draft.long(SEGMENT_INDEX));
-        p.drafts.rotate_left(1);
+        p.sort_first_last();
         set_times(p, |index| index as f64);
     }),
     edge(0, "TRIGGER_OFFSETs that run backwards", trigtime, |p, _| {
