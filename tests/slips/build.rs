@@ -8,12 +8,15 @@ use std::{env, fs};
 const LAW: &str = "../src/law";
 const LIST: &str = "wrong.txt";
 /// What a version may be caught by with nothing to compare with; src/main.rs has a way for each.
-const FLAWS: [&str; 5] = [
+const FLAWS: [&str; 8] = [
     "breaks demand 3",
     "breaks a rule",
     "hangs on the header",
     "misplaces a part",
     "misses the rail",
+    "hangs on arrival",
+    "moves a segment",
+    "gives no part back",
 ];
 
 /// One entry of the list; a line left out has no wrong one.

@@ -6,6 +6,7 @@ use std::process::ExitCode;
 
 use tessarquin_tests::cases;
 use tessarquin_tests::compare::{Checker, Difference};
+use tessarquin_tests::joins;
 use tessarquin_tests::random::Random;
 use tessarquin_tests::request::{Calls, LAW};
 
@@ -35,7 +36,7 @@ struct Way {
     run: fn(&mut Checker, &mut Random) -> Result<(), Difference>,
 }
 
-const WAYS: [Way; 5] = [
+const WAYS: [Way; 8] = [
     Way {
         flaw: "breaks demand 3",
         caught_how: "caught by demand 3 alone",
@@ -65,6 +66,24 @@ const WAYS: [Way; 5] = [
         caught_how: "caught by the marks of known samples alone",
         kind: "marks",
         run: cases::marks_known,
+    },
+    Way {
+        flaw: "hangs on arrival",
+        caught_how: "caught by another order of arrival alone",
+        kind: "two arrivals",
+        run: joins::two_arrivals,
+    },
+    Way {
+        flaw: "moves a segment",
+        caught_how: "caught by the points of the parts they join alone",
+        kind: "join",
+        run: joins::joined_points,
+    },
+    Way {
+        flaw: "gives no part back",
+        caught_how: "caught by cutting what they join alone",
+        kind: "join of cuts",
+        run: joins::joined_cuts,
     },
 ];
 

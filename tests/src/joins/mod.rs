@@ -41,7 +41,11 @@ pub fn run(
         return (format!("join of many: {}", edge.name), ask(checker, &parts, random));
     }
     match turn % 8 {
-        0 => ("join".into(), joined_parts(checker, random)),
+        0 => {
+            let parts = Plan::any(random).parts(random);
+            let asked = ask(checker, &parts, random);
+            ("join".into(), asked.and_then(|()| answers::check_joined(checker, &parts, random)))
+        }
         kind @ 1..=3 => {
             let edge = take_turn(&edges::edges(), turn / 8 * 3 + kind - 1);
             let parts = edges::all(&[edge], random);
@@ -61,10 +65,19 @@ pub fn run(
     }
 }
 
-/// Right parts in two orders of arrival, and the points of what they join to.
-pub fn joined_parts(checker: &mut Checker, random: &mut Random) -> Result<(), Difference> {
+/// Good parts in two orders of arrival, at any edge where all are good.
+pub fn two_arrivals(checker: &mut Checker, random: &mut Random) -> Result<(), Difference> {
+    let edge = random.pick(&edges::edges());
+    let parts = edges::all(&[edge], random);
+    if !parts.all_good() {
+        return Ok(());
+    }
+    answers::check_arrival(checker, &parts, random)
+}
+
+/// The points of what right parts join to.
+pub fn joined_points(checker: &mut Checker, random: &mut Random) -> Result<(), Difference> {
     let parts = Plan::any(random).parts(random);
-    ask(checker, &parts, random)?;
     answers::check_joined(checker, &parts, random)
 }
 

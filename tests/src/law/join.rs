@@ -79,14 +79,10 @@ fn joined(parts: &[Opened]) -> Vec<u8> {
     let first = ordered[0];
     let mut payload = head(first, parts.len());
     payload.extend(first.user_text);
-    for part in &ordered {
-        payload.extend(part.trigtime);
-    }
+    ordered.iter().for_each(|part| payload.extend(part.trigtime));
     payload.extend(first.ristime);
     for array in 0..first.arrays.len() {
-        for part in &ordered {
-            payload.extend(part.arrays[array]);
-        }
+        ordered.iter().for_each(|part| payload.extend(part.arrays[array]));
     }
     framed(&payload)
 }
