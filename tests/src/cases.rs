@@ -37,7 +37,7 @@ pub fn run(checker: &mut Checker, seed: u64, case: u64) -> (String, Result<(), D
             let block = right_block(random);
             ("right block".into(), ask_much(checker, &block, random))
         }
-        1 => joins::run(checker, case / 8, random),
+        1 => joins::run(checker, case / 8, random), // is_join
         turn @ 2..=4 => {
             // The edges take turns, so that a few hundred cases have them all.
             let edge = take_turn(&edges::edges(), case / 8 * 3 + turn - 2);
@@ -60,6 +60,11 @@ pub fn run(checker: &mut Checker, seed: u64, case: u64) -> (String, Result<(), D
         _ if case % 32 == 23 => ("parts and texts".into(), parts_and_texts(checker, random)),
         _ => ("cut of a cut".into(), cut_of_cut(checker, random)),
     }
+}
+
+/// Whether a case asks for joins.
+pub fn is_join(case: u64) -> bool {
+    case % 8 == 1
 }
 
 /// Two cuts, one after the other, of a right block.

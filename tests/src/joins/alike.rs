@@ -32,7 +32,8 @@ pub static EDGES: &[Edge] = &[
     edge(16, "a byte behind the second name's zero byte", two_or_more, |p, r| {
         flip(p, r, &[BEHIND_NAMES[1].clone()]);
     }),
-    edge(16, "a reserved word", two_or_more, |p, r| flip(p, r, &[112..116, 320..322])),
+    edge(16, "one of the first two reserved words", two_or_more, |p, r| flip(p, r, &[112..116])),
+    edge(16, "the third reserved word", two_or_more, |p, r| flip(p, r, &[320..322])),
     edge(16, "the unused word", two_or_more, |p, r| flip(p, r, &[310..312])),
     edge(16, "a name or a label", two_or_more, |p, r| flip(p, r, &[76..92, 96..112])),
     edge(16, "a unit", two_or_more, |p, r| flip(p, r, &[196..244, 244..292])),
@@ -116,16 +117,16 @@ pub static EDGES: &[Edge] = &[
         });
     }),
     edge(16, "the other byte order", two_or_more, |p, r| p.one(r, |d, _| turn(d))),
+    edge(16, "the other byte order and no table", no_table, |p, r| p.one(r, |d, _| turn(d))),
     edge(0, "all in the other byte order", any, |p, _| p.each(turn)),
     // User texts
-    edge(16, "a byte of the user text", with_text, |p, r| {
-        p.one(r, |d, r| {
-            let length = d.user_text.len();
-            if length > 0 {
-                let any = r.below(length);
-                d.user_text[r.pick(&[0, length - 1, any])] ^= 1 << r.below(8);
-            }
-        });
+    edge(16, "the first byte of the user text", with_text, |p, r| flip_text(p, r, |_, _| 0)),
+    edge(16, "the last byte of the user text", with_text, |p, r| flip_text(p, r, |n, _| n - 1)),
+    edge(16, "a byte of the user text", with_text, |p, r| flip_text(p, r, |n, r| r.below(n))),
+    edge(16, "a byte of the user text behind a zero byte", two_or_more, |p, r| {
+        p.each(|d| d.user_text = b"ends\0old".to_vec());
+        p.each(Draft::fit_lengths);
+        p.one(r, |d, r| d.user_text[5 + r.below(3)] ^= 1 << r.below(8));
     }),
     edge(16, "a user text one byte longer", two_or_more, |p, r| {
         p.one(r, |d, r| {
@@ -160,6 +161,16 @@ fn flip(parts: &mut Parts, random: &mut Random, ranges: &[Range<usize>]) {
     let at = random.range(range.start as i64, range.end as i64 - 1) as usize;
     let bit = 1 << random.below(8);
     parts.one(random, |draft, _| draft.head[at] ^= bit);
+}
+
+/// Changes a bit of one part's user text, at a place by the text's length.
+fn flip_text(parts: &mut Parts, random: &mut Random, place: fn(usize, &mut Random) -> usize) {
+    parts.one(random, |draft, random| {
+        let length = draft.user_text.len();
+        if length > 0 {
+            draft.user_text[place(length, random)] ^= 1 << random.below(8);
+        }
+    });
 }
 
 /// The same numbers in the other byte order.

@@ -4,6 +4,7 @@
 use super::answers::joined;
 use super::parts::Plan;
 use crate::compare::{Checker, Difference};
+use crate::law::descriptor::SEGMENT_INDEX;
 use crate::questions::Extent;
 use crate::random::Random;
 use crate::request::Call;
@@ -25,7 +26,7 @@ pub fn check(checker: &mut Checker, plan: &Plan, random: &mut Random) -> Result<
         }
     } else {
         for draft in plan.parts_of(&sequence, random).drafts {
-            let index = draft.long(crate::law::descriptor::SEGMENT_INDEX) as u32;
+            let index = draft.long(SEGMENT_INDEX) as u32;
             parts.push((index, written(checker, &draft.bytes(), with_sn(setup, 1), random)?));
         }
     }

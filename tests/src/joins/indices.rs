@@ -26,12 +26,14 @@ pub static EDGES: &[Edge] = &[
         let (from, to) = different(p, r);
         p.index(from, |d| set_index(d, to));
     }),
+    edge(16, "index 3 for 2", three_or_more, |p, _| p.index(2, |d| set_index(d, 3))),
     edge(16, "a part twice", any, |p, r| {
         let mut again = None;
         p.one(r, |d, _| again = Some(d.clone()));
         p.drafts.extend(again);
     }),
     edge(16, "index 0", any, |p, r| p.one(r, |d, _| set_index(d, 0))),
+    edge(16, "index 0 of one part", one, |p, _| p.each(|d| set_index(d, 0))),
     edge(16, "index 0 for n", any, |p, _| p.index(p.count(), |d| set_index(d, 0))),
     edge(16, "index n + 1 for n", any, |p, _| {
         let n = p.count();
@@ -61,6 +63,12 @@ pub static EDGES: &[Edge] = &[
     }),
     edge(16, "an index that two bytes take for a right one", any, |p, r| {
         p.one(r, |d, r| add_to_index(d, r.pick(&[1 << 16, 1 << 24, 1 << 30])));
+    }),
+    edge(16, "an index that one byte takes for n", any, |p, _| {
+        p.index(p.count(), |d| add_to_index(d, 1 << 8));
+    }),
+    edge(16, "an index that two bytes take for n", any, |p, r| {
+        p.index(p.count(), |d| add_to_index(d, r.pick(&[1 << 16, 1 << 24, 1 << 30])));
     }),
     edge(6, "an index below 0", any, |p, r| p.one(r, |d, _| set_index(d, -index(d)))),
     edge(6, "an index with its sign bit", any, |p, r| {

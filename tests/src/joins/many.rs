@@ -11,13 +11,13 @@ use crate::shape::Table;
 
 pub static EDGES: &[Edge] = &[
     edge(0, "hundreds of parts", hundreds, as_they_are),
-    edge(0, "999 parts", |n, r| many(n, r, 999), as_they_are),
-    edge(0, "1,000 parts", |n, r| many(n, r, 1000), as_they_are),
-    edge(16, "1,001 parts", |n, r| many(n, r, 1001), as_they_are),
+    edge(0, "999 parts", |n, r| n.set_many(999, r), as_they_are),
+    edge(0, "1,000 parts", |n, r| n.set_many(1000, r), as_they_are),
+    edge(16, "1,001 parts", |n, r| n.set_many(1001, r), as_they_are),
     edge(
         0,
         "1,001 parts and the last taken away",
-        |n, r| many(n, r, 1001),
+        |n, r| n.set_many(1001, r),
         |p, _| {
             p.drafts.retain(|draft| draft.long(SEGMENT_INDEX) != 1001);
         },
@@ -25,18 +25,18 @@ pub static EDGES: &[Edge] = &[
     edge(
         4,
         "a bad part behind 1,001",
-        |n, r| many(n, r, 1001),
+        |n, r| n.set_many(1001, r),
         |p, _| {
             let mut bad = p.drafts[0].clone();
             bad.set_word(COMM_TYPE, 2);
             p.drafts.push(bad);
         },
     ),
-    edge(1, "a new line behind 1,001", |n, r| many(n, r, 1001), |p, _| p.tail = vec![b'\n']),
+    edge(1, "a new line behind 1,001", |n, r| n.set_many(1001, r), |p, _| p.tail = vec![b'\n']),
     edge(
         2,
         "1,001 parts, the last cut short",
-        |n, r| many(n, r, 1001),
+        |n, r| n.set_many(1001, r),
         |p, _| {
             p.drop_last_byte();
         },
@@ -44,7 +44,7 @@ pub static EDGES: &[Edge] = &[
     edge(
         16,
         "an index twice among 1,000",
-        |n, r| many(n, r, 1000),
+        |n, r| n.set_many(1000, r),
         |p, r| {
             p.one(r, |d, _| d.set_long(SEGMENT_INDEX, d.long(SEGMENT_INDEX) % 1000 + 1));
         },
@@ -73,16 +73,9 @@ pub static LONGEST: &[Edge] = &[
     }),
 ];
 
-/// So many parts of few points.
-fn many(plan: &mut Plan, random: &mut Random, count: i64) {
-    plan.set_count(count, random);
-    plan.shape.points = random.range(1, 3);
-    plan.shape.user_text = random.pick(&[0, 0, 1, 20]);
-}
-
 fn hundreds(plan: &mut Plan, random: &mut Random) {
     let count = random.range(100, 600);
-    many(plan, random, count);
+    plan.set_many(count, random);
 }
 
 fn hundreds_of_times(plan: &mut Plan, random: &mut Random) {

@@ -51,6 +51,13 @@ impl Plan {
         };
     }
 
+    /// So many parts of few points.
+    pub fn set_many(&mut self, count: i64, random: &mut Random) {
+        self.set_count(count, random);
+        self.shape.points = random.range(1, 3);
+        self.shape.user_text = random.pick(&[0, 0, 1, 20]);
+    }
+
     /// The block that the parts join to.
     pub fn sequence(&self, random: &mut Random) -> Draft {
         let mut sequence = self.shape.draft(random);

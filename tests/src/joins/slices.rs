@@ -95,6 +95,20 @@ pub static EDGES: &[Edge] = &[
         p.last(|d| d.set_long(SPARSING_FACTOR, -1));
         p.first(|d| d.head[8] = b'S');
     }),
+    edge(4, "COMM_TYPE in the last, an index twice before it", three_or_more, |p, _| {
+        let index = p.drafts.first().map_or(0, |d| d.long(SEGMENT_INDEX));
+        p.drafts.iter_mut().take(2).for_each(|d| d.set_long(SEGMENT_INDEX, index));
+        p.last(|d| d.set_word(COMM_TYPE, 2));
+    }),
+    edge(7, "FIRST_POINT in the last, another text before it", two_or_more, |p, _| {
+        p.first(|d| d.user_text.push(0));
+        p.first(Draft::fit_lengths);
+        p.last(|d| d.set_long(FIRST_POINT, -1));
+    }),
+    edge(2, "the last cut short, index 0 before it", two_or_more, |p, _| {
+        p.first(|d| d.set_long(SEGMENT_INDEX, 0));
+        p.drop_last_byte();
+    }),
     edge(8, "a gain in the first, the last cut short", two_or_more, |p, _| {
         p.first(|d| d.set_float(VERTICAL_GAIN, 0x7F80_0000));
         p.drop_last_byte();
