@@ -41,7 +41,7 @@ fn main() {
         write_copy(&folder, &files, entry);
         let module = folder.join("mod.rs");
         let Entry { title, flaws, .. } = entry;
-        let join_alone = entry.file == "join.rs"; // no other file uses it
+        let join_alone = files_behind(&entry.file, &files) == ["join.rs"];
         writeln!(modules, "#[path = {module:?}]\nmod wrong_{number};").expect("a string grows");
         writeln!(
             names,

@@ -10,39 +10,38 @@ use crate::random::Random;
 use std::ops::Range;
 
 /// What no rule judges in a block without RISTIME.
-const FREE: [Range<usize>; 11] = [
-    9..16,
-    27..32,
-    76..116, // INSTRUMENT_NAME to the reserved words
-    120..132,
-    148..156,
-    164..176,
+const FREE: [Range<usize>; 8] = [
+    9..16,    // behind DESCRIPTOR_NAME
+    27..32,   // behind TEMPLATE_NAME
+    76..116,  // INSTRUMENT_NAME to the reserved words
+    120..132, // PNTS_PER_SCREEN to LAST_VALID_PNT
+    148..156, // SWEEPS_PER_ACQ to PAIR_OFFSET
+    164..176, // MAX_VALUE to NOM_SUBARRAY_COUNT
     188..292, // PIXEL_OFFSET to HORUNIT
-    292..310,
-    310..316,
-    316..324,
-    324..346,
+    292..346, // HORIZ_UNCERTAINTY to WAVE_SOURCE
 ];
 
 pub static EDGES: &[Edge] = &[
     // Bytes that no rule judges
     edge(16, "a byte behind the first name's zero byte", two_or_more, |p, r| {
-        flip(p, r, &[BEHIND_NAMES[0].clone()]);
+        flip(p, r, BEHIND_NAMES[0].clone());
     }),
     edge(16, "a byte behind the second name's zero byte", two_or_more, |p, r| {
-        flip(p, r, &[BEHIND_NAMES[1].clone()]);
+        flip(p, r, BEHIND_NAMES[1].clone());
     }),
-    edge(16, "one of the first two reserved words", two_or_more, |p, r| flip(p, r, &[112..116])),
-    edge(16, "the third reserved word", two_or_more, |p, r| flip(p, r, &[320..322])),
-    edge(16, "the unused word", two_or_more, |p, r| flip(p, r, &[310..312])),
-    edge(16, "a name or a label", two_or_more, |p, r| flip(p, r, &[76..92, 96..112])),
-    edge(16, "a unit", two_or_more, |p, r| flip(p, r, &[196..244, 244..292])),
-    edge(16, "a number that no rule judges", two_or_more, |p, r| flip(p, r, &[92..96, 120..132])),
-    edge(16, "SWEEPS_PER_ACQ, behind the index", two_or_more, |p, r| flip(p, r, &[148..152])),
-    edge(16, "the time of the trigger", two_or_more, |p, r| flip(p, r, &[296..310])),
-    edge(16, "RIS_SWEEPS without RISTIME", two_or_more, |p, r| flip(p, r, &[322..324])),
-    edge(16, "the last byte of the descriptor", two_or_more, |p, r| flip(p, r, &[345..346])),
-    edge(16, "any byte that no rule judges", two_or_more, |p, r| flip(p, r, &FREE)),
+    edge(16, "one of the first two reserved words", two_or_more, |p, r| flip(p, r, 112..116)),
+    edge(16, "the third reserved word", two_or_more, |p, r| flip(p, r, 320..322)),
+    edge(16, "the unused word", two_or_more, |p, r| flip(p, r, 310..312)),
+    edge(16, "a name or a label", two_or_more, |p, r| flip_any(p, r, &[76..92, 96..112])),
+    edge(16, "a unit", two_or_more, |p, r| flip_any(p, r, &[196..244, 244..292])),
+    edge(16, "a number that no rule judges", two_or_more, |p, r| {
+        flip_any(p, r, &[92..96, 120..132]);
+    }),
+    edge(16, "SWEEPS_PER_ACQ, behind the index", two_or_more, |p, r| flip(p, r, 148..152)),
+    edge(16, "the time of the trigger", two_or_more, |p, r| flip(p, r, 296..310)),
+    edge(16, "RIS_SWEEPS without RISTIME", two_or_more, |p, r| flip(p, r, 322..324)),
+    edge(16, "the last byte of the descriptor", two_or_more, |p, r| flip(p, r, 345..346)),
+    edge(16, "any byte that no rule judges", two_or_more, |p, r| flip_any(p, r, &FREE)),
     edge(16, "a number for no number", two_or_more, |p, r| {
         // MAX_VALUE: quiet and signalling
         p.each(|d| d.set_float(164, 0x7FC0_0000));
@@ -155,12 +154,17 @@ pub static EDGES: &[Edge] = &[
     }),
 ];
 
-/// Changes a bit of one part, somewhere in one of these ranges.
-fn flip(parts: &mut Parts, random: &mut Random, ranges: &[Range<usize>]) {
-    let range = ranges[random.below(ranges.len())].clone();
-    let at = random.range(range.start as i64, range.end as i64 - 1) as usize;
+/// Changes a bit of one part's descriptor, somewhere in a range.
+fn flip(parts: &mut Parts, random: &mut Random, range: Range<usize>) {
+    let at = range.start + random.below(range.len());
     let bit = 1 << random.below(8);
     parts.one(random, |draft, _| draft.head[at] ^= bit);
+}
+
+/// The same in one of some ranges.
+fn flip_any(parts: &mut Parts, random: &mut Random, ranges: &[Range<usize>]) {
+    let range = ranges[random.below(ranges.len())].clone();
+    flip(parts, random, range);
 }
 
 /// Changes a bit of one part's user text, at a place by the text's length.

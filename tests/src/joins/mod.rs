@@ -148,7 +148,7 @@ fn bad_part(
     let good: Vec<_> =
         Plan::any(random).parts(random).drafts.iter().map(|draft| draft.bytes()).collect();
     let mut ask = |place: usize| {
-        let slice = [&good[..place], &[block.clone()], &good[place..]].concat().concat();
+        let slice = [good[..place].concat(), block.clone(), good[place..].concat()].concat();
         ask_slice(checker, &slice, random)
     };
     let asked = [0, good.len() / 2, good.len()].into_iter().try_for_each(&mut ask);
