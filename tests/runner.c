@@ -24,7 +24,8 @@
 #include "tessarquin.h"
 
 enum kind {
-    PROBE, OPEN, POINT, FILL, CUT, FLOATS, WALK, STEP, USER_TEXT, LABEL, LAYOUT, TEXT_PLACE, LABEL_PLACE, WALKED_FLOATS
+    PROBE, OPEN, POINT, FILL, CUT, FLOATS, WALK, STEP, USER_TEXT, LABEL, LAYOUT, TEXT_PLACE, LABEL_PLACE, WALKED_FLOATS,
+    JOIN
 };
 enum { BLOCK, FALLBACK, OUT, ANSWER, MARKS, SLICES };
 
@@ -172,6 +173,8 @@ static uint64_t call(enum kind kind, const uint32_t n[5], const struct slice len
         return tessarquin_fill(block, block_len, n[0], n[1], answer, answer_len);
     case CUT:
         return tessarquin_cut(block, block_len, n[0], n[1], n[2], n[3], n[4], out, out_len, answer, answer_len);
+    case JOIN:
+        return tessarquin_join(block, block_len, out, out_len, answer, answer_len);
     case LAYOUT:
         return tessarquin_layout(block, block_len, answer, answer_len);
     case TEXT_PLACE:

@@ -1,5 +1,6 @@
 //! Makes the wrong versions of the independent implementation: for each entry of wrong.txt a copy
-//! of ../src/law with one line changed, and one file that names them all.
+//! of ../src/law with one line changed, and one file that names them all. Of a version only the file
+//! that changes and those that use it are copied; the others are the law's own.
 
 use std::fmt::Write;
 use std::path::{Path, PathBuf};
@@ -8,12 +9,15 @@ use std::{env, fs};
 const LAW: &str = "../src/law";
 const LIST: &str = "wrong.txt";
 /// What a version may be caught by with nothing to compare with; src/main.rs has a way for each.
-const FLAWS: [&str; 5] = [
+const FLAWS: [&str; 8] = [
     "breaks demand 3",
     "breaks a rule",
     "hangs on the header",
     "misplaces a part",
     "misses the rail",
+    "hangs on arrival",
+    "moves a segment",
+    "gives no part back",
 ];
 
 /// One entry of the list; a line left out has no wrong one.
@@ -37,10 +41,11 @@ fn main() {
         write_copy(&folder, &files, entry);
         let module = folder.join("mod.rs");
         let Entry { title, flaws, .. } = entry;
+        let join_alone = files_behind(&entry.file, &files) == ["join.rs"];
         writeln!(modules, "#[path = {module:?}]\nmod wrong_{number};").expect("a string grows");
         writeln!(
             names,
-            "Version {{ title: {title:?}, flaws: &{flaws:?}, calls: calls_of!(wrong_{number}) }},"
+            "Version {{ title: {title:?}, join_alone: {join_alone}, flaws: &{flaws:?}, calls: calls_of!(wrong_{number}) }},"
         )
         .expect("a string grows");
     }
@@ -48,13 +53,14 @@ fn main() {
     fs::write(out.join("wrong.rs"), text).expect("OUT_DIR takes files");
 }
 
-/// The files of the implementation: name and text.
+/// The files of the implementation: name and text. mod.rs only names the others.
 fn law_files() -> Vec<(String, String)> {
     let folder = fs::read_dir(LAW).expect("../src/law is a folder");
     let read = |path: &Path| fs::read_to_string(path).expect("a source file is text");
     folder
         .map(|entry| entry.expect("a folder lists its files"))
         .map(|entry| (entry.file_name().to_string_lossy().into_owned(), read(&entry.path())))
+        .filter(|(name, _)| name != "mod.rs")
         .collect()
 }
 
@@ -84,14 +90,41 @@ fn entries(list: &str) -> Vec<Entry> {
         .collect()
 }
 
-/// Writes the copy of one entry.
+/// Writes the copy of one entry: the files that change with it, and the file that names all.
 fn write_copy(folder: &Path, files: &[(String, String)], entry: &Entry) {
     fs::create_dir_all(folder).expect("OUT_DIR takes folders");
     assert!(files.iter().any(|(name, _)| *name == entry.file), "{LIST}: no file {}", entry.file);
+    let copied = files_behind(&entry.file, files);
+    let mut modules = String::new();
     for (name, text) in files {
+        let module = module(name);
+        if !copied.contains(&name.as_str()) {
+            modules += &format!("pub use tessarquin_tests::law::{module};\n");
+            continue;
+        }
+        modules += &format!("pub mod {module};\n");
         let text = if *name == entry.file { changed(text, entry) } else { text.clone() };
         fs::write(folder.join(name), text).expect("OUT_DIR takes files");
     }
+    fs::write(folder.join("mod.rs"), modules).expect("OUT_DIR takes files");
+}
+
+/// A file and those that use it, by whatever way.
+fn files_behind<'a>(file: &'a str, files: &'a [(String, String)]) -> Vec<&'a str> {
+    let mut found = vec![file];
+    let mut next = 0;
+    while next < found.len() {
+        let [path, name] = [":", ";"].map(|end| format!("super::{}{end}", module(found[next])));
+        let users = files.iter().filter(|(_, text)| text.contains(&path) || text.contains(&name));
+        let new: Vec<&str> = users.map(|(user, _)| user.as_str()).collect();
+        found.extend(new.into_iter().filter(|user| !found.contains(user)).collect::<Vec<_>>());
+        next += 1;
+    }
+    found
+}
+
+fn module(file: &str) -> &str {
+    file.strip_suffix(".rs").expect("the law's files are Rust")
 }
 
 /// The text with the entry's line changed.

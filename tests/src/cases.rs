@@ -4,6 +4,7 @@ use crate::compare::{Checker, Difference};
 use crate::draft::{digits, Draft};
 use crate::edges::{self, Edge};
 use crate::headers;
+use crate::joins;
 use crate::law::descriptor::*;
 use crate::law::numbers::{read_signed, store};
 use crate::law::rules::{open, Refusal};
@@ -32,10 +33,11 @@ pub fn run(checker: &mut Checker, seed: u64, case: u64) -> (String, Result<(), D
         return (format!("long block: {}", edge.name), ask_little(checker, &block, random));
     }
     match case % 8 {
-        0 | 1 => {
+        0 => {
             let block = right_block(random);
             ("right block".into(), ask_much(checker, &block, random))
         }
+        1 => joins::run(checker, case / 8, random), // is_join
         turn @ 2..=4 => {
             // The edges take turns, so that a few hundred cases have them all.
             let edge = take_turn(&edges::edges(), case / 8 * 3 + turn - 2);
@@ -58,6 +60,11 @@ pub fn run(checker: &mut Checker, seed: u64, case: u64) -> (String, Result<(), D
         _ if case % 32 == 23 => ("parts and texts".into(), parts_and_texts(checker, random)),
         _ => ("cut of a cut".into(), cut_of_cut(checker, random)),
     }
+}
+
+/// Whether a case asks for joins.
+pub fn is_join(case: u64) -> bool {
+    case % 8 == 1
 }
 
 /// Two cuts, one after the other, of a right block.

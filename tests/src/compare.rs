@@ -5,7 +5,7 @@ use std::collections::BTreeMap;
 use std::fmt::Display;
 
 /// The refusals that a run must see: all that the calls give.
-const REFUSALS: [u64; 14] = [1, 2, 3, 4, 5, 6, 7, 8, 9, 10, 11, 12, 13, 20];
+const REFUSALS: [u64; 15] = [1, 2, 3, 4, 5, 6, 7, 8, 9, 10, 11, 12, 13, 16, 20];
 
 /// What has been compared so far.
 #[derive(Default)]
@@ -20,6 +20,8 @@ pub struct Tally {
     pub placed_blocks: u64,
     /// Blocks whose marks are those of the samples they were made of.
     pub marked_blocks: u64,
+    /// Blocks that a join wrote and whose segments are the parts.
+    pub joined_blocks: u64,
 }
 
 impl Tally {
@@ -39,7 +41,10 @@ impl Tally {
         if self.placed_blocks == 0 {
             return Some("no block's parts and texts were looked for".into());
         }
-        (self.marked_blocks == 0).then(|| "no block's marks were looked for".into())
+        if self.marked_blocks == 0 {
+            return Some("no block's marks were looked for".into());
+        }
+        (self.joined_blocks == 0).then(|| "no joined block was looked at".into())
     }
 
     /// How many calls were made.

@@ -1,6 +1,7 @@
 //! The document's checked examples and the requests', and the descriptor's table held against its
-//! own words. marks.rs has walks and marks, places.rs where things stand.
+//! own words. join.rs has joins, marks.rs walks and marks, places.rs where things stand.
 
+mod join;
 mod marks;
 mod places;
 

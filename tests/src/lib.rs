@@ -7,6 +7,7 @@ pub mod draft;
 pub mod edges;
 pub mod floats;
 pub mod headers;
+pub mod joins;
 pub mod law;
 pub mod marks;
 pub mod pairs;

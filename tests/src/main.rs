@@ -92,9 +92,9 @@ fn run_all(options: &Options) -> Result<String, String> {
     }
     let (calls, by_name, numbers) = (tally.all_calls(), counts(&tally.calls), counts(&tally.seen));
     let (cut_blocks, placed_blocks) = (tally.cut_blocks, tally.placed_blocks);
-    let marked_blocks = tally.marked_blocks;
+    let (marked_blocks, joined_blocks) = (tally.marked_blocks, tally.joined_blocks);
     Ok(format!(
-        "{cases} cases, {calls} calls, no difference ({by_name}); {cut_blocks} cut blocks opened, none refused; {placed_blocks} blocks with parts and texts in their places; {marked_blocks} blocks with the marks of their samples; numbers seen: {numbers}"
+        "{cases} cases, {calls} calls, no difference ({by_name}); {cut_blocks} cut blocks opened, none refused; {placed_blocks} blocks with parts and texts in their places; {marked_blocks} blocks with the marks of their samples; {joined_blocks} joined blocks with the segments of their parts; numbers seen: {numbers}"
     ))
 }
 

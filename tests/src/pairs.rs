@@ -20,12 +20,12 @@ pub fn check(checker: &mut Checker, block: &[u8], random: &mut Random) -> Result
     // b is of any kind: it may be refused, and its room may be short.
     let extent = Extent::of(first_block);
     let b = if random.once_in(4) { extent.cut(random) } else { extent.right_cut(random) };
-    let all_room = Room::for_cut(first_block.len(), 16);
+    let all_room = Room::for_block(first_block.len(), 16);
     let full = checker.ask(&with_room(random, b, first_block, all_room))?;
     let need = if full.number == 0 { full.written().len() } else { first_block.len() };
     let out_room = random.pick(&[need, need, need, need - 1, need + 9]);
     let answer_room = random.pick(&[16, 16, 16, 16, 15, 20]);
-    let room = Room::for_cut(out_room, answer_room);
+    let room = Room::for_block(out_room, answer_room);
     let of_cut = with_room(random, b, first_block, room);
     let second = checker.ask(&of_cut)?;
     if second.number == 10 || second.number == 11 {
@@ -100,7 +100,7 @@ fn kept_points(
 }
 
 /// Array, segment and number of every point of a small block, and of some points of another.
-fn some_points(extent: &Extent, random: &mut Random) -> Vec<(u32, u32, u32)> {
+pub fn some_points(extent: &Extent, random: &mut Random) -> Vec<(u32, u32, u32)> {
     let all = u64::from(extent.arrays) * u64::from(extent.segments) * u64::from(extent.points);
     let point = |n: u64| {
         let (row, k) = (n / u64::from(extent.points), n % u64::from(extent.points));

@@ -10,6 +10,8 @@ pub enum Call {
     Point { array: u32, segment: u32, point: u32 },
     Fill { array: u32, segment: u32 },
     Cut { sp: u32, np: u32, fp: u32, sn: u32, order: u32 },
+    // `block` holds the parts, back to back.
+    Join,
     // Where the payload and its ten parts start, with the fields that say so.
     Layout,
     // Where the user text stands in the block.
@@ -32,7 +34,7 @@ pub enum Call {
 
 impl Call {
     /// How many calls there are, by name.
-    pub const NAMES: usize = 13;
+    pub const NAMES: usize = 14;
 
     pub fn name(&self) -> &'static str {
         match self {
@@ -40,6 +42,7 @@ impl Call {
             Call::Point { .. } => "point",
             Call::Fill { .. } => "fill",
             Call::Cut { .. } => "cut",
+            Call::Join => "join",
             Call::Layout => "layout",
             Call::TextPlace => "place of user text",
             Call::LabelPlace { .. } => "place of label",
@@ -85,7 +88,7 @@ impl fmt::Display for Call {
     fn fmt(&self, f: &mut fmt::Formatter) -> fmt::Result {
         write!(f, "{}", self.name())?;
         match self {
-            Call::Open | Call::Layout | Call::TextPlace | Call::UserText => Ok(()),
+            Call::Open | Call::Join | Call::Layout | Call::TextPlace | Call::UserText => Ok(()),
             Call::Point { array, segment, point } => {
                 write!(f, ": array {array}, segment {segment}, point {point}")
             }
@@ -107,8 +110,8 @@ impl fmt::Display for Call {
 }
 
 /// A call with the slices lent to it, and what they hold before it. `fallback` is empty but for a
-/// label and its place, `out` but for a cut and a walk, `marks` but for a walk and a step. Floats are
-/// lent as their bytes, the low byte first.
+/// label and its place, `out` but for a cut, a join and a walk, `marks` but for a walk and a step.
+/// Floats are lent as their bytes, the low byte first.
 #[derive(Clone)]
 pub struct Request<'a> {
     pub call: Call,
@@ -139,7 +142,7 @@ impl Reply {
         u64::from_be_bytes(bytes)
     }
 
-    /// The block that an accepted cut wrote.
+    /// The block that an accepted cut or join wrote.
     pub fn written(&self) -> &[u8] {
         let length = self.number_at(1) as usize;
         &self.out[..length.min(self.out.len())]
@@ -160,6 +163,7 @@ pub struct Calls {
     pub point: fn(&[u8], u32, u32, u32, &mut [u8]) -> u32,
     pub fill: fn(&[u8], u32, u32, &mut [u8]) -> u32,
     pub cut: fn(&[u8], u32, u32, u32, u32, u32, &mut [u8], &mut [u8]) -> u32,
+    pub join: fn(&[u8], &mut [u8], &mut [u8]) -> u32,
     pub layout: fn(&[u8], &mut [u8]) -> u32,
     pub text_place: fn(&[u8], &mut [u8]) -> u32,
     pub label_place: fn(&[u8], &[u8], &mut [u8]) -> u32,
@@ -175,12 +179,13 @@ pub struct Calls {
 #[macro_export]
 macro_rules! calls_of {
     ($module:path) => {{
-        use $module::{calls, places, tested};
+        use $module::{calls, join, places, tested};
         $crate::request::Calls {
             open: calls::open,
             point: calls::point,
             fill: calls::fill,
             cut: calls::cut,
+            join: join::join,
             layout: places::layout,
             text_place: places::text_place,
             label_place: places::label_place,
@@ -211,6 +216,7 @@ impl Calls {
             Call::Cut { sp, np, fp, sn, order } => {
                 (self.cut)(block, sp, np, fp, sn, order, &mut out, &mut answer).into()
             }
+            Call::Join => (self.join)(block, &mut out, &mut answer).into(),
             Call::Layout => (self.layout)(block, &mut answer).into(),
             Call::TextPlace => (self.text_place)(block, &mut answer).into(),
             Call::LabelPlace { .. } => (self.label_place)(block, fallback, &mut answer).into(),

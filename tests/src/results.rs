@@ -15,7 +15,7 @@ pub fn check(
     cut: Call,
     random: &mut Random,
 ) -> Result<(), Difference> {
-    let room = Room::for_cut(block.len() + CUT_MORE, 16);
+    let room = Room::for_block(block.len() + CUT_MORE, 16);
     let reply = checker.ask(&with_room(random, cut, block, room))?;
     if reply.number != 0 {
         let number = reply.number;

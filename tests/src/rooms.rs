@@ -19,8 +19,8 @@ pub struct Room {
 }
 
 impl Room {
-    /// For a cut: its block, then c and the block's length.
-    pub fn for_cut(out: usize, answer: usize) -> Room {
+    /// For a cut or a join: its block, then c or n, and the block's length.
+    pub fn for_block(out: usize, answer: usize) -> Room {
         Room { out, answer, marks: 0 }
     }
 
@@ -33,8 +33,8 @@ impl Room {
 pub fn request<'a>(random: &mut Random, call: Call, block: &'a [u8]) -> Request<'a> {
     let need = need(call, block);
     let unit = if call.takes_floats() { 8 } else { 1 };
-    // A cut is hardly longer than its block.
-    let most = if matches!(call, Call::Cut { .. }) { usize::MAX } else { MOST_ROOM };
+    // A cut is hardly longer than its block, nor a joined block longer than its parts.
+    let most = if matches!(call, Call::Cut { .. } | Call::Join) { usize::MAX } else { MOST_ROOM };
     let mut lent = |need: usize, unit: usize| (unit * near(random, need / unit)).min(most);
     let out = if need.out == 0 { 0 } else { lent(need.out, unit) };
     let answer = lent(need.answer, unit);
@@ -82,10 +82,10 @@ fn need(call: Call, block: &[u8]) -> Room {
         Call::Open => Room::for_answer(40),
         Call::Point { .. } => Room::for_answer(24),
         Call::Fill { .. } => Room::for_answer(8 * points() + 8),
-        Call::Cut { .. } => {
-            let room = Room::for_cut(block.len() + CUT_MORE, 16);
+        Call::Cut { .. } | Call::Join => {
+            let room = Room::for_block(block.len() + CUT_MORE, 16);
             let reply = LAW.reply(&with_zeros(call, block, room));
-            Room::for_cut(if reply.number == 0 { reply.written().len() } else { 400 }, 16)
+            Room::for_block(if reply.number == 0 { reply.written().len() } else { 400 }, 16)
         }
         Call::Layout => Room::for_answer(200),
         Call::TextPlace => Room::for_answer(16),

@@ -133,6 +133,7 @@ impl Core for Runner {
             Call::TextPlace => [11, 0, 0, 0, 0, 0],
             Call::LabelPlace { .. } => [12, 0, 0, 0, 0, 0],
             Call::WalkedFloats { array, segment } => [13, array, segment, 0, 0, 0],
+            Call::Join => [14, 0, 0, 0, 0, 0],
         };
         let Request { block, fallback, out, answer, marks, .. } = request;
         self.exchange(&numbers, [block, fallback, out, answer, marks])

@@ -6,12 +6,15 @@ use std::process::ExitCode;
 
 use tessarquin_tests::cases;
 use tessarquin_tests::compare::{Checker, Difference};
+use tessarquin_tests::joins;
 use tessarquin_tests::random::Random;
 use tessarquin_tests::request::{Calls, LAW};
 
 /// A wrong version.
 struct Version {
     title: &'static str,
+    /// Whether it answers every other call as the right one does.
+    join_alone: bool,
     /// What shows it with nothing to compare with.
     flaws: &'static [&'static str],
     calls: Calls,
@@ -35,7 +38,7 @@ struct Way {
     run: fn(&mut Checker, &mut Random) -> Result<(), Difference>,
 }
 
-const WAYS: [Way; 5] = [
+const WAYS: [Way; 8] = [
     Way {
         flaw: "breaks demand 3",
         caught_how: "caught by demand 3 alone",
@@ -66,6 +69,24 @@ const WAYS: [Way; 5] = [
         kind: "marks",
         run: cases::marks_known,
     },
+    Way {
+        flaw: "hangs on arrival",
+        caught_how: "caught by another order of arrival alone",
+        kind: "two arrivals",
+        run: joins::two_arrivals,
+    },
+    Way {
+        flaw: "moves a segment",
+        caught_how: "caught by the points of the parts they join alone",
+        kind: "join",
+        run: joins::joined_points,
+    },
+    Way {
+        flaw: "gives no part back",
+        caught_how: "caught by cutting what they join alone",
+        kind: "join of cuts",
+        run: joins::joined_cuts,
+    },
 ];
 
 /// Cases that a version is compared in: those of a common run.
@@ -74,17 +95,20 @@ const SEED: u64 = 1;
 
 fn main() -> ExitCode {
     let at_odds = || WAYS.iter().find_map(|way| first_at_odds(LAW, way));
-    if let Some(found) = first_difference(LAW).or_else(at_odds) {
+    if let Some(found) = first_difference(LAW, |_| true).or_else(at_odds) {
         println!("the right version: {found}");
         return ExitCode::FAILURE;
     }
     // A wrong version may panic; the comparison tells of it.
     panic::set_hook(Box::new(|_| ()));
     let list = std::env::args().any(|argument| argument == "--list");
-    let mut all_caught = tell("caught", list, wrong::WRONG.iter(), first_difference);
+    let mut all_caught = tell("caught", list, wrong::WRONG.iter(), |version| {
+        first_difference(version.calls, |case| !version.join_alone || cases::is_join(*case))
+    });
     for way in &WAYS {
         let flawed = wrong::WRONG.iter().filter(|version| version.flaws.contains(&way.flaw));
-        all_caught &= tell(way.caught_how, list, flawed, |calls| first_at_odds(calls, way));
+        all_caught &=
+            tell(way.caught_how, list, flawed, |version| first_at_odds(version.calls, way));
     }
     match all_caught {
         true => ExitCode::SUCCESS,
@@ -97,11 +121,11 @@ fn tell<'a>(
     caught_how: &str,
     list: bool,
     versions: impl Iterator<Item = &'a Version>,
-    catch: impl Fn(Calls) -> Option<String>,
+    catch: impl Fn(&Version) -> Option<String>,
 ) -> bool {
     let (mut caught, mut all) = (0, 0);
-    for Version { title, calls, .. } in versions {
-        let found = catch(*calls);
+    for version in versions {
+        let (title, found) = (version.title, catch(version));
         caught += u32::from(found.is_some());
         all += 1;
         if list || found.is_none() {
@@ -112,10 +136,11 @@ fn tell<'a>(
     caught == all && all > 0
 }
 
-/// The first difference between a version and the right one, in a line.
-fn first_difference(mut calls: Calls) -> Option<String> {
+/// The first difference between a version and the right one, in a line. Only cases that can show it
+/// are asked.
+fn first_difference(mut calls: Calls, can_show: impl Fn(&u64) -> bool) -> Option<String> {
     let mut checker = Checker::new(&mut calls, LAW);
-    (0..CASES).find_map(|case| {
+    (0..CASES).filter(can_show).find_map(|case| {
         let (kind, result) = cases::run(&mut checker, SEED, case);
         result.err().map(|difference| line(case, &kind, difference))
     })

@@ -5,8 +5,8 @@ use super::numbers::{read, store, Order};
 use super::points::{place, sample_bytes};
 use super::rules::Opened;
 
-/// Bytes that a cut may have more than its block: it has nine digits, and an accepted block has at
-/// least three.
+/// Bytes that a cut may have more than its block, and a joined block more than its parts: it has
+/// nine digits, and an accepted block has at least three.
 pub const CUT_MORE: usize = 6;
 
 /// WAVEFORM_SETUP's four numbers; an SP of 0 counts as 1.
@@ -125,7 +125,7 @@ fn turn(number: &mut [u8], from: Order, to: Order) {
 }
 
 /// The payload behind its `#9` header, with no new line.
-fn framed(payload: &[u8]) -> Vec<u8> {
+pub fn framed(payload: &[u8]) -> Vec<u8> {
     let mut block = format!("#9{:09}", payload.len()).into_bytes();
     block.extend(payload);
     block

@@ -2,12 +2,13 @@
 //!
 //! Written from the document alone, and nothing is shared with the proved code. It favours being
 //! read over being quick: lists of kept points and segments, a new block built piece by piece.
-//! slips/build.rs copies this folder for each wrong version and changes one line in the copy, so the
-//! files find one another by `super::`.
+//! For each wrong version slips/build.rs copies a file, changes one line in the copy, and copies the
+//! files that use it; so the files find one another by `super::`.
 
 pub mod calls;
 pub mod cut;
 pub mod descriptor;
+pub mod join;
 pub mod numbers;
 pub mod places;
 pub mod points;

@@ -5,7 +5,7 @@ use super::descriptor::*;
 use super::numbers::{read_double, Order};
 
 /// The refusals, with the document's numbers. 14 was never given and is not used; no call gives 15
-/// to 19.
+/// or 17 to 19.
 #[derive(Clone, Copy, Debug, PartialEq, Eq)]
 pub enum Refusal {
     Frame = 1,
@@ -21,6 +21,7 @@ pub enum Refusal {
     Point,
     Sparse,
     Room,
+    Join = 16,
     Time = 20,
 }
 
@@ -92,7 +93,7 @@ pub fn open(block: &[u8]) -> Result<Opened<'_>, Refusal> {
 }
 
 /// 1 FRAME: `#`, a digit d from 1 to 9, and d digits; hands out where the payload starts.
-fn frame(block: &[u8]) -> Result<usize, Refusal> {
+pub fn frame(block: &[u8]) -> Result<usize, Refusal> {
     refuse(block.len() < 2, Refusal::Frame)?;
     refuse(block[0] != b'#', Refusal::Frame)?;
     refuse(!(b'1'..=b'9').contains(&block[1]), Refusal::Frame)?;
@@ -105,14 +106,19 @@ fn frame(block: &[u8]) -> Result<usize, Refusal> {
 
 /// 2 LENGTH; hands out the payload.
 fn length(block: &[u8], start: usize) -> Result<&[u8], Refusal> {
-    let append = |number: usize, digit: &u8| 10 * number + usize::from(digit - b'0');
-    let stated = block[2..start].iter().fold(0, append);
+    let stated = stated(block, start);
     refuse(stated < SHORTEST_PAYLOAD, Refusal::Length)?;
     refuse(stated > LONGEST_PAYLOAD, Refusal::Length)?;
     refuse(block.len() < start + stated, Refusal::Length)?;
     let (payload, behind) = block[start..].split_at(stated);
     refuse(!behind.is_empty() && behind != [10], Refusal::Length)?;
     Ok(payload)
+}
+
+/// L, as the digits before the payload state it.
+pub fn stated(block: &[u8], start: usize) -> usize {
+    let append = |number: usize, digit: &u8| 10 * number + usize::from(digit - b'0');
+    block[2..start].iter().fold(0, append)
 }
 
 /// 3 NAME
