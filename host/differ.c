@@ -8,14 +8,10 @@
 
 enum kind { TEXT, BYTE, WORD, LONG, FLOAT, DOUBLE };
 
-/* Those that follow from the number of segments are not held against a block that has another number of them. */
-enum { FREE, FOLLOWS };
-
 struct field {
     const char *name;
     enum kind kind;
     size_t at, bytes;
-    int by_segments;
     const char *(*named)(int n); /* the name of an enum's number */
 };
 
@@ -31,22 +27,19 @@ static const char *order(int n)
 
 /* The descriptor as the template has it, without SEGMENT_INDEX. */
 static const struct field fields[] = {
-#define F(name, kind, bytes) {#name, kind, TESSARQUIN_AT_##name, bytes, FREE, NULL},
-#define E(name, named) {#name, WORD, TESSARQUIN_AT_##name, 2, FREE, named},
-#define LENGTH(name, i, by_segments) {name, LONG, TESSARQUIN_AT_LENGTHS + 4 * i, 4, by_segments, NULL},
+#define F(name, kind, bytes) {#name, kind, TESSARQUIN_AT_##name, bytes, NULL},
+#define E(name, named) {#name, WORD, TESSARQUIN_AT_##name, 2, named},
+#define LENGTH(name, i) {name, LONG, TESSARQUIN_AT_LENGTHS + 4 * i, 4, NULL},
     F(DESCRIPTOR_NAME, TEXT, 16) F(TEMPLATE_NAME, TEXT, 16)
     E(COMM_TYPE, type) E(COMM_ORDER, order)
-    LENGTH("WAVE_DESCRIPTOR", 0, FREE) LENGTH("USER_TEXT", 1, FREE) LENGTH("RES_DESC1", 2, FREE)
-    LENGTH("TRIGTIME_ARRAY", 3, FOLLOWS) LENGTH("RIS_TIME_ARRAY", 4, FREE) LENGTH("RES_ARRAY1", 5, FREE)
-    LENGTH("WAVE_ARRAY_1", 6, FOLLOWS) LENGTH("WAVE_ARRAY_2", 7, FOLLOWS) LENGTH("RES_ARRAY2", 8, FREE)
-    LENGTH("RES_ARRAY3", 9, FREE)
+    LENGTH("WAVE_DESCRIPTOR", 0) LENGTH("USER_TEXT", 1) LENGTH("RES_DESC1", 2) LENGTH("TRIGTIME_ARRAY", 3)
+    LENGTH("RIS_TIME_ARRAY", 4) LENGTH("RES_ARRAY1", 5) LENGTH("WAVE_ARRAY_1", 6) LENGTH("WAVE_ARRAY_2", 7)
+    LENGTH("RES_ARRAY2", 8) LENGTH("RES_ARRAY3", 9)
     F(INSTRUMENT_NAME, TEXT, 16) F(INSTRUMENT_NUMBER, LONG, 4) F(TRACE_LABEL, TEXT, 16)
-    {"the reserved word at 112", WORD, 112, 2, FREE, NULL}, {"the reserved word at 114", WORD, 114, 2, FREE, NULL},
-    {"WAVE_ARRAY_COUNT", LONG, TESSARQUIN_AT_WAVE_ARRAY_COUNT, 4, FOLLOWS, NULL},
-    F(PNTS_PER_SCREEN, LONG, 4) F(FIRST_VALID_PNT, LONG, 4) F(LAST_VALID_PNT, LONG, 4)
-    F(FIRST_POINT, LONG, 4) F(SPARSING_FACTOR, LONG, 4)
-    {"SUBARRAY_COUNT", LONG, TESSARQUIN_AT_SUBARRAY_COUNT, 4, FOLLOWS, NULL},
-    F(SWEEPS_PER_ACQ, LONG, 4) F(POINTS_PER_PAIR, WORD, 2) F(PAIR_OFFSET, WORD, 2)
+    {"the reserved word at 112", WORD, 112, 2, NULL}, {"the reserved word at 114", WORD, 114, 2, NULL},
+    F(WAVE_ARRAY_COUNT, LONG, 4) F(PNTS_PER_SCREEN, LONG, 4) F(FIRST_VALID_PNT, LONG, 4) F(LAST_VALID_PNT, LONG, 4)
+    F(FIRST_POINT, LONG, 4) F(SPARSING_FACTOR, LONG, 4) F(SUBARRAY_COUNT, LONG, 4) F(SWEEPS_PER_ACQ, LONG, 4)
+    F(POINTS_PER_PAIR, WORD, 2) F(PAIR_OFFSET, WORD, 2)
     F(VERTICAL_GAIN, FLOAT, 4) F(VERTICAL_OFFSET, FLOAT, 4) F(MAX_VALUE, FLOAT, 4) F(MIN_VALUE, FLOAT, 4)
     F(NOMINAL_BITS, WORD, 2) F(NOM_SUBARRAY_COUNT, WORD, 2)
     F(HORIZ_INTERVAL, FLOAT, 4) F(HORIZ_OFFSET, DOUBLE, 8) F(PIXEL_OFFSET, DOUBLE, 8)
@@ -54,10 +47,10 @@ static const struct field fields[] = {
     F(HORIZ_UNCERTAINTY, FLOAT, 4)
     F(TRIGGER_SECONDS, DOUBLE, 8) F(TRIGGER_MINUTES, BYTE, 1) F(TRIGGER_HOURS, BYTE, 1) F(TRIGGER_DAYS, BYTE, 1)
     F(TRIGGER_MONTHS, BYTE, 1) F(TRIGGER_YEAR, WORD, 2)
-    {"the unused word at 310", WORD, 310, 2, FREE, NULL},
+    {"the unused word at 310", WORD, 310, 2, NULL},
     F(ACQ_DURATION, FLOAT, 4)
     E(RECORD_TYPE, record_type) E(PROCESSING_DONE, processing)
-    {"the reserved word at 320", WORD, 320, 2, FREE, NULL},
+    {"the reserved word at 320", WORD, 320, 2, NULL},
     F(RIS_SWEEPS, WORD, 2) F(TIMEBASE, WORD, 2) E(VERT_COUPLING, coupling)
     F(PROBE_ATT, FLOAT, 4) F(FIXED_VERT_GAIN, WORD, 2) E(BANDWIDTH_LIMIT, bandwidth_limit)
     F(VERTICAL_VERNIER, FLOAT, 4) F(ACQ_VERT_OFFSET, FLOAT, 4) E(WAVE_SOURCE, wave_source)
@@ -71,8 +64,6 @@ enum { FIELDS = sizeof fields / sizeof *fields };
 static int field_differs(const struct field *f, const struct opened *one, const struct opened *other)
 {
     const uint8_t *a = one->payload + f->at, *b = other->payload + f->at;
-    if (f->by_segments == FOLLOWS && one->segments != other->segments)
-        return 0;
     if (f->kind == TEXT)
         return memcmp(a, b, f->bytes) != 0;
     return tessarquin_field_bits(a, f->bytes, one->order) != tessarquin_field_bits(b, f->bytes, other->order);

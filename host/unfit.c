@@ -32,8 +32,6 @@ static size_t tell_given(size_t given)
 
 static size_t tell_no_segment(const struct opened *o)
 {
-    if (is_segment(o))
-        return 0;
     if (o->segments > 1)
         say("%s has %s: cut out each with its SN, from 1 to %s, and join these", name_of(o), counted(o->segments, "segment"), grouped(o->segments));
     else
@@ -41,7 +39,7 @@ static size_t tell_no_segment(const struct opened *o)
     return 1;
 }
 
-/* ---- indexes that are missing or there twice */
+/* ---- indexes that are missing, or there twice */
 
 static size_t tell_missing(uint32_t from, uint32_t to)
 {
@@ -72,10 +70,7 @@ static size_t tell_indexes(const struct opened *parts, size_t count, int all_rea
     size_t told = 0, same;
     uint32_t last = 0;
     for (size_t i = 0; i < count; i += same) {
-        same = 1;
-        if (!is_segment(&parts[i]))
-            continue;
-        while (i + same < count && parts[i + same].index == parts[i].index)
+        for (same = 1; i + same < count && parts[i + same].index == parts[i].index;)
             same++;
         if (all_read && parts[i].index > last + 1)
             told += tell_missing(last + 1, parts[i].index - 1);
@@ -92,17 +87,23 @@ static size_t tell_indexes(const struct opened *parts, size_t count, int all_rea
 
 /* ---- descriptors and user texts */
 
-/* A file that more than half of the others equal, where there is one: so what is told is which files are the odd ones. */
+/* The first of those that are the same, where these are more than half: so what is told is which files are the odd ones.
+   Each that is another takes one of the same away, and of more than half some are left. */
 static const struct opened *usual(const struct opened *parts, size_t count)
 {
-    const struct opened *found = parts;
-    size_t more = 0;
+    const struct opened *found = parts, *first = parts;
+    size_t left = 0;
     for (size_t i = 0; i < count; i++) {
-        if (more == 0)
+        if (left == 0)
             found = &parts[i];
-        more += more == 0 || !differ(&parts[i], found) ? 1 : (size_t)-1;
+        if (left == 0 || !differ(&parts[i], found))
+            left++;
+        else
+            left--;
     }
-    return found;
+    while (differ(first, found))
+        first++;
+    return first;
 }
 
 static size_t tell_different(const struct opened *o, const struct opened *from)
@@ -114,7 +115,7 @@ static size_t tell_different(const struct opened *o, const struct opened *from)
     fprintf(to, "%s differs from %s: ", name_of(o), name_of(from));
     found_different(to, o, from);
     told_all(to);
-    say("%s%s", told.text, o->order != from->order ? "; a cut writes either order" : "");
+    say("%s%s", told.text, o->order != from->order ? "; trace cut writes either order" : "");
     free(told.text);
     return 1;
 }
@@ -132,7 +133,7 @@ static size_t tell_ris(const struct opened *o, size_t count)
 /* The segment before this one has another index, or it is said elsewhere that there are two. */
 static size_t tell_backwards(const struct opened *before, const struct opened *o)
 {
-    if (!is_segment(before) || before->trigtime.length == 0 || o->trigtime.length == 0 || before->index == o->index)
+    if (before->trigtime.length == 0 || o->trigtime.length == 0 || before->index == o->index)
         return 0;
     double one = trigger_time(before, 1), other = trigger_time(o, 1);
     if (!(other < one))
@@ -156,17 +157,26 @@ static size_t tell_length(const struct opened *parts, size_t count, size_t given
     return 1;
 }
 
-size_t tell_unfit(const struct opened *parts, size_t count, size_t given)
+/* What stands in the way of files that are one segment each. */
+static size_t tell_segments(const struct opened *parts, size_t count, int all_read)
 {
-    size_t told = tell_given(given);
-    for (size_t i = 0; i < count; i++)
-        told += tell_no_segment(&parts[i]);
-    told += tell_indexes(parts, count, count == given);
     const struct opened *from = usual(parts, count);
+    size_t told = tell_indexes(parts, count, all_read);
     for (size_t i = 0; i < count; i++)
         told += tell_different(&parts[i], from);
     told += tell_ris(from, count);
     for (size_t i = 1; i < count; i++)
         told += tell_backwards(&parts[i - 1], &parts[i]);
+    return told;
+}
+
+/* A block of more segments has the index 0, and so the others come first; their fields will be those of other blocks. */
+size_t tell_unfit(const struct opened *parts, size_t count, size_t given)
+{
+    size_t told = tell_given(given), others = 0;
+    for (; others < count && !is_segment(&parts[others]); others++)
+        told += tell_no_segment(&parts[others]);
+    if (others < count)
+        told += tell_segments(parts + others, count - others, count == given);
     return told + tell_length(parts, count, given);
 }
