@@ -76,6 +76,8 @@ checked: need-tests host target/host/made target/host/sample target/host/table t
 	@$(CXX) -std=c++17 -Wall -Wextra -Werror -Iinclude -Itarget/host -fsyntax-only -x c++ target/host/first.c host/tests/printed.c
 	@$(CC) $(CFLAGS) host/tests/calls.c $(ARCHIVE) -o target/host/calls
 	@$(RUN) target/host/calls
+	@$(CC) $(CFLAGS) host/tests/joins.c $(ARCHIVE) -o target/host/joins
+	@$(RUN) target/host/joins
 	@$(RUN) target/host/fields
 	@$(CC) $(CFLAGS) -Ihost host/tests/decimals.c host/decimal.c -o target/host/decimals
 	@$(RUN) target/host/decimals
