@@ -176,25 +176,80 @@ static void test_join_equal(int order)
     unmap(b);
 }
 
-/* A thousand parts, one more, a bad one behind that; and times that fall from one part to the next. */
+/* Times by index, whatever the order of the parts: equal ones pass, and one that is less than the one before it not. */
+static void test_join_times(int order)
+{
+    now = order ? "times of a join, low byte first" : "times of a join, high byte first";
+    static const uint32_t orders[2][3] = {{1, 2, 3}, {3, 1, 2}};
+    static const struct { double times[3]; uint32_t refusal; } tables[] = {
+        {{0, 1, 2}, TESSARQUIN_OK}, {{5, 5, 5}, TESSARQUIN_OK}, {{0.0, -0.0, 0.0}, TESSARQUIN_OK}, {{-2, -1, 0x1p-1074}, TESSARQUIN_OK},
+        {{1, 0, 2}, TESSARQUIN_JOIN}, {{0, 2, 1}, TESSARQUIN_JOIN}, {{-1, -2, 0}, TESSARQUIN_JOIN}, {{0x1p-1074, 0, 1}, TESSARQUIN_JOIN}};
+    struct slice b = make(order, 0, 3, 4, 1);
+    for (size_t i = 0; i < 2; i++) {
+        struct slice parts = lay(b, orders[i], 3);
+        for (size_t t = 0; t < sizeof tables / sizeof *tables; t++) {
+            for (size_t n = 0; n < 3; n++)
+                put_double(parts.bytes + n * (parts.length / 3), order, DESCRIPTOR_BYTES, tables[t].times[orders[i][n] - 1]);
+            struct slice out = lend(b.length);
+            check(join(parts, out, 16) == tables[t].refusal, "another number");
+            give_back(out, tables[t].refusal ? 0 : b.length);
+        }
+        unmap(parts);
+    }
+    unmap(b);
+}
+
+/* RIS offsets, of one part alone; and two parts that make the longest block, or two bytes more. */
+static void test_join_rules(void)
+{
+    now = "rules of the joined block";
+    static const uint32_t both[2] = {1, 2};
+    struct slice b = make(0, 0, 2, 8, 1), parts = lay(b, both, 2);
+    for (size_t n = 0; n < 2; n++) {
+        put(parts.bytes + n * (parts.length / 2), 0, 48, 4, 0);
+        put(parts.bytes + n * (parts.length / 2), 0, 52, 4, 16);
+        put(parts.bytes + n * (parts.length / 2), 0, 322, 2, 2);
+    }
+    refuses_join(parts, TESSARQUIN_JOIN, "RIS offsets of two parts");
+    struct slice one = {parts.pages, parts.bytes, parts.size, parts.length / 2}, out = lend(one.length);
+    check(join(one, out, 16) == 0 && answers[TESSARQUIN_JOIN_LENGTH] == one.length, "RIS offsets of one part");
+    check(memcmp(out.bytes + HEADER + 346, parts.bytes + HEADER + 346, one.length - HEADER - 346) == 0, "other offsets or samples");
+    unmap(out);
+    unmap(parts);
+    unmap(b);
+    for (uint32_t points = 8388435; points <= 8388436; points++) {
+        struct shape part = {1, 0, 1, points, 0};
+        parts = lend(2 * block_bytes(part));
+        for (uint64_t n = 0; n < 2; n++) {
+            put_block(parts.bytes + n * block_bytes(part), part);
+            put(parts.bytes + n * block_bytes(part), 1, 140, 4, n + 1);
+        }
+        out = lend(TESSARQUIN_BLOCK_MOST - 1);
+        check(join(parts, out, 16) == (points == 8388435 ? TESSARQUIN_OK : TESSARQUIN_JOIN), "the longest block, and a longer one");
+        give_back(out, points == 8388435 ? out.length : 0);
+        unmap(parts);
+    }
+}
+
+/* A thousand parts, one more, and a bad one behind that. */
 static void test_join_many(void)
 {
     now = "a thousand parts";
-    static uint32_t segments[1001];
-    for (uint32_t i = 0; i < 1001; i++)
-        segments[i] = 1001 - i;
-    struct slice b = make(0, 0, 1001, 1, 1), parts = lay(b, segments, 1001);
-    size_t one = parts.length / 1001;
-    refuses_join(parts, TESSARQUIN_JOIN, "one more");
-    parts.bytes[1000 * one + HEADER] = 'w';
-    refuses_join(parts, TESSARQUIN_NAME, "one more, which is bad");
-    parts.bytes[1000 * one + HEADER] = 'W';
-    struct slice thousand = {parts.pages, parts.bytes + one, parts.size, 1000 * one}, out = lend(thousand.length);
+    static uint32_t segments[1002];
+    for (uint32_t i = 0; i < 1002; i++)
+        segments[i] = 1002 - i;
+    struct slice b = make(0, 0, 1002, 1, 1), parts = lay(b, segments, 1002);
+    size_t one = parts.length / 1002;
+    struct slice more = {parts.pages, parts.bytes + one, parts.size, 1001 * one}, thousand = {parts.pages, more.bytes + one, parts.size, 1000 * one};
+    refuses_join(more, TESSARQUIN_JOIN, "one more");
+    parts.bytes[1001 * one + HEADER] = 'w';
+    refuses_join(more, TESSARQUIN_NAME, "one more, with a bad one");
+    refuses_join(parts, TESSARQUIN_NAME, "a bad one behind one more");
+    parts.bytes[1001 * one + HEADER] = 'W';
+    struct slice out = lend(thousand.length);
     check(join(thousand, out, 16) == 0 && answers[TESSARQUIN_JOIN_PARTS] == 1000 && answers[TESSARQUIN_JOIN_LENGTH] == HEADER + 346 + 17000, "it is refused");
     for (uint32_t n = 1; n <= 1000; n++)
-        check(out.bytes[HEADER + 346 + 16000 + n - 1] == b.bytes[samples_at((struct shape){0, 0, 1001, 1, 1}) + n - 1], "a sample is another");
-    put_double(thousand.bytes + 500 * one, 0, 346, 1.0);
-    refuses_join(thousand, TESSARQUIN_JOIN, "a time that is less than the one before it");
+        check(out.bytes[HEADER + 346 + 16000 + n - 1] == b.bytes[samples_at((struct shape){0, 0, 1002, 1, 1}) + n - 1], "a sample is another");
     unmap(out);
     unmap(parts);
     unmap(b);
@@ -209,7 +264,9 @@ int main(void)
     for (int order = 0; order <= 1; order++) {
         test_join_refusals(order);
         test_join_equal(order);
+        test_join_times(order);
     }
+    test_join_rules();
     test_join_many();
     printf("joins: %u checks held\n", checked);
     return 0;
