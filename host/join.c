@@ -11,7 +11,7 @@ struct parts {
     uint8_t *bytes;
     size_t length, room, count;
     struct file *files;
-    size_t *starts;   /* where each block starts, and behind them where the last one ends */
+    size_t *starts;     /* where each block starts, and behind them where the last one ends */
     size_t of_segments; /* how many bytes they have behind their user texts: all of these come into the joined block */
 };
 

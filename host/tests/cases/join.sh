@@ -70,6 +70,7 @@ for k in 1 2 3; do
     "$trace" cut "$sample" "$k" 1 0 0 "$k" lo 2>/dev/null
 done
 "$trace" join "$folder/good3" 1 2 3 2>/dev/null
+"$trace" points "$folder/good3" | cmp -s - <("$trace" points "$sample") || wrong 'the joined segments of the sample have other points'
 { printf 'C2:WF ALL,'; cat 1; echo; } >1.words
 { printf '#6%06d' $(($(stat -c %s 2) - 11)); tail -c +12 2; } >2.six
 expect 0 "segment 1  from  1.words
