@@ -68,8 +68,12 @@ static int by_index(const void *one, const void *other)
 static struct opened *open_parts(const struct parts *all)
 {
     struct opened *opened = memory(all->count * sizeof *opened);
-    for (size_t i = 0; i < all->count; i++)
-        opened[i] = open_block((struct block){all->files[i], all->bytes + all->starts[i], all->starts[i + 1] - all->starts[i]});
+    for (size_t i = 0; i < all->count; i++) {
+        struct file file = all->files[i];
+        file.bytes = all->bytes + all->starts[i];
+        file.length = all->starts[i + 1] - all->starts[i];
+        opened[i] = open_block(block_in(file));
+    }
     qsort(opened, all->count, sizeof *opened, by_index);
     return opened;
 }
