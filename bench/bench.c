@@ -1,6 +1,6 @@
 /*
- * Work to be counted: bench lib|c CASE POINTS TIMES does it so many times; bench time lib|c CASE POINTS prints the
- * nanoseconds of one; bench stack prints how much stack each call takes.
+ * Work to be counted: bench lib|c CASE POINTS TIMES does it so many times, on so many points, segments or parts; bench
+ * time lib|c CASE POINTS prints the nanoseconds of one; bench stack prints how much stack each call takes.
  */
 #include "blocks.h"
 #include "measured.h"
@@ -46,6 +46,35 @@ static void with_six_digits(void)
     memcpy(block, header, SIX);
 }
 
+/* So many segments of words with trigger times, each a block of its own, back to back and out of order: part i has the
+   index 7 i + 4, from 1 on, which is each index once where 7 does not divide their number. */
+static size_t parts, part_length;
+
+static void make_parts(int order, size_t count, size_t in_each)
+{
+    struct shape s = {order, 1, 1, (uint32_t)in_each, 1};
+    parts = count;
+    part_length = block_bytes(s);
+    length = count * part_length;
+    block = malloc(length);
+    out = malloc(length + TESSARQUIN_JOIN_MORE);
+    if (!block || !out)
+        exit(2);
+    for (size_t i = 0; i < count; i++) {
+        uint8_t *part = block + i * part_length;
+        size_t index = (7 * i + 3) % count + 1;
+        put_block(part, s);
+        put(part, order, 140, 4, index);
+        put_double(part, order, DESCRIPTOR_BYTES, 100.0 * (double)index);
+    }
+}
+
+/* The last part with the index of the one before it. */
+static void with_index_twice(int order)
+{
+    put(block + (parts - 1) * part_length, order, 140, 4, (7 * (parts - 2) + 3) % parts + 1);
+}
+
 /* ---- the cases */
 
 static uint32_t opened(void) { return tessarquin_open(block, length, answer, sizeof answer); }
@@ -85,6 +114,25 @@ static uint32_t of_cut(void)
     return refusal ? refusal : asked(out, (size_t)tessarquin_number(answer, 1), 1);
 }
 
+/* A join, and one that is refused; in C every part is opened by the library, and copied where the join is made. */
+static uint32_t joined(void) { return tessarquin_join(block, length, out, length + TESSARQUIN_JOIN_MORE, answer, sizeof answer); }
+static uint32_t unjoined(void) { return joined() != TESSARQUIN_JOIN; }
+
+static uint32_t c_opened(void)
+{
+    uint32_t refusal = 0;
+    for (size_t i = 0; i < parts && !refusal; i++)
+        refusal = tessarquin_open(block + i * part_length, part_length, answer, sizeof answer);
+    return refusal;
+}
+
+static uint32_t c_joined(void)
+{
+    uint32_t refusal = c_opened();
+    same_copies(block, part_length, parts, out);
+    return refusal;
+}
+
 static uint32_t copied(void) { return cut_by(1, 1); }
 static uint32_t turned(void) { return cut_by(1, 0); }
 static uint32_t by_4(void) { return cut_by(4, 1); }
@@ -110,10 +158,14 @@ static uint32_t c_by_4(void) { same_keep(block + samples, points, 4, out); retur
 static uint32_t c_by_4_turned(void) { same_turn(block + samples, points, 4, out); return 0; }
 static uint32_t c_by_100(void) { same_keep(block + samples, points, 100, out); return 0; }
 
+/* Parts of 16,383 bytes, of which a thousand are nearly the longest block, and of 401 bytes. */
+enum { IN_LARGE = 8005, IN_SMALL = 14 };
+
 static const struct work {
     const char *name;
     int order;
-    size_t width, in_each; /* points in each of many segments, with trigger times; or 0, one segment of all */
+    size_t width, in_each; /* points in each of many segments, with trigger times; or 0, one segment of all. Of a join each
+                              segment is a part of its own. */
     uint32_t (*lib)(void), (*c)(void);
 } works[] = {
     {"open-low", 1, 2, 0, opened, NULL},
@@ -144,6 +196,12 @@ static const struct work {
     {"cut-by-4", 1, 2, 0, by_4, c_by_4},
     {"cut-by-4-turn", 1, 2, 0, by_4_turned, c_by_4_turned},
     {"cut-by-100", 1, 2, 0, by_100, c_by_100},
+    {"join-large-low", 1, 2, IN_LARGE, joined, c_joined},
+    {"join-large-high", 0, 2, IN_LARGE, joined, c_joined},
+    {"join-small-low", 1, 2, IN_SMALL, joined, c_joined},
+    {"join-small-high", 0, 2, IN_SMALL, joined, c_joined},
+    {"join-twice-large", 1, 2, IN_LARGE, unjoined, c_opened},
+    {"join-twice-small", 1, 2, IN_SMALL, unjoined, c_opened},
 };
 
 static const struct work *find(const char *name)
@@ -158,7 +216,13 @@ static const struct work *find(const char *name)
 static uint32_t (*prepare(const char *who, const char *name, size_t n))(void)
 {
     const struct work *w = find(name);
-    make(w->order, w->width, w->in_each ? n : 1, w->in_each ? w->in_each : n, w->in_each != 0);
+    int of_parts = strncmp(name, "join-", 5) == 0;
+    if (of_parts)
+        make_parts(w->order, n, w->in_each);
+    else
+        make(w->order, w->width, w->in_each ? n : 1, w->in_each ? w->in_each : n, w->in_each != 0);
+    if (strncmp(name, "join-twice", 10) == 0)
+        with_index_twice(w->order);
     if (strcmp(name, "open-six") == 0)
         with_six_digits();
     if (strcmp(name, "label-full") == 0)
@@ -166,7 +230,7 @@ static uint32_t (*prepare(const char *who, const char *name, size_t n))(void)
     if (strncmp(name, "open-below-zero", 15) == 0)
         put_double(block, w->order, DESCRIPTOR_BYTES, -1.0);
     uint32_t (*work)(void) = strcmp(who, "lib") == 0 ? w->lib : w->c;
-    if (!work || opened() != 0) {
+    if (!work || (of_parts ? c_opened() : opened()) != 0) {
         fprintf(stderr, "bench: %s has no such work\n", name);
         exit(2);
     }
@@ -235,6 +299,8 @@ static void print_stacks(void)
     printf("tessarquin_point %zu\n", touched(one_point) - none);
     printf("tessarquin_fill %zu\n", touched(filled) - none);
     printf("tessarquin_cut %zu\n", touched(by_4) - none);
+    make_parts(0, 1000, IN_SMALL);
+    printf("tessarquin_join %zu\n", touched(joined) - none);
 }
 
 int main(int count, char **words)

@@ -122,6 +122,12 @@ void same_copy(const uint8_t *samples, size_t n, uint8_t *out)
     memcpy(out, samples, n);
 }
 
+void same_copies(const uint8_t *parts, size_t length, size_t n, uint8_t *out)
+{
+    for (size_t i = 0; i < n; i++)
+        memcpy(out + i * length, parts + i * length, length);
+}
+
 static int16_t sample(const uint8_t *at, uint32_t kind, uint32_t order)
 {
     if (kind == 0)

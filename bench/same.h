@@ -17,6 +17,9 @@ void same_keep(const uint8_t *samples, size_t n, size_t step, uint8_t *out);
 void same_turn(const uint8_t *samples, size_t n, size_t step, uint8_t *out);
 void same_copy(const uint8_t *samples, size_t n, uint8_t *out);
 
+/* n parts of so many bytes, one by one. */
+void same_copies(const uint8_t *parts, size_t length, size_t n, uint8_t *out);
+
 /*
  * A walk: where a segment's samples stand, and how they are scaled. A step tests its place against the block, as the
  * walk does, since anyone may have made it; then it answers the value, the time and the mark and moves on.

@@ -2,9 +2,6 @@
 #include "host.h"
 #include "tessarquin.h"
 
-/* One byte more than the longest block with the longest words: of a longer file this much, which is refused. */
-#define READ_MOST (TESSARQUIN_BLOCK_MOST + WORDS_MOST + 1u)
-
 /* Where the # is; 0 where none is found, so that the whole is refused. */
 static size_t words_before(struct file file)
 {
@@ -12,11 +9,15 @@ static size_t words_before(struct file file)
     return sign ? (size_t)(sign - file.bytes) : 0;
 }
 
-struct block read_block(const char *name)
+struct block block_in(struct file file)
 {
-    struct file file = read_file(name, READ_MOST);
     size_t before = words_before(file);
     return (struct block){file, file.bytes + before, file.length - before};
+}
+
+struct block read_block(const char *name)
+{
+    return block_in(read_file(name, memory(READ_MOST), READ_MOST));
 }
 
 /* Part `part` of the payload. */
@@ -46,9 +47,16 @@ struct opened open_block(struct block b)
         .sparsing = (uint32_t)tessarquin_number(layout, TESSARQUIN_LAYOUT_SPARSING),
         .index = (uint32_t)tessarquin_number(layout, TESSARQUIN_LAYOUT_SEGMENT_INDEX),
         .payload = payload,
+        .text = part_of(payload, layout, TESSARQUIN_PART_USER_TEXT),
         .trigtime = part_of(payload, layout, TESSARQUIN_PART_TRIGTIME),
         .ristime = part_of(payload, layout, TESSARQUIN_PART_RISTIME),
         .samples = {part_of(payload, layout, TESSARQUIN_PART_ARRAY_1), part_of(payload, layout, TESSARQUIN_PART_ARRAY_2)}};
+}
+
+/* Behind array 2, which has its place where it is empty too, stands nothing but that. */
+size_t length_of_block(const struct opened *o)
+{
+    return (size_t)(o->samples[1].bytes + o->samples[1].length - o->block.bytes);
 }
 
 struct alone cut_out(const struct opened *o, uint32_t n)

@@ -118,6 +118,17 @@ char *put_decimal(char *to, double x)
     return put_exactly(x < 0 ? copy(to, "-", 1) : to, size);
 }
 
+char *put_float(char *to, float x)
+{
+    int length = 0;
+    for (int digits = 6; digits <= 9; digits++) {
+        length = snprintf(to, DECIMAL_MOST, "%.*g", digits, (double)x);
+        if (strtof(to, NULL) == x)
+            break;
+    }
+    return to + length;
+}
+
 char *put_digits(char *to, double x, int digits)
 {
     return to + snprintf(to, DECIMAL_MOST, "%.*g", digits, x);

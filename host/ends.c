@@ -34,6 +34,20 @@ void fail(int status, const char *format, ...)
     exit(status);
 }
 
+FILE *told_to(struct told *told)
+{
+    FILE *to = open_memstream(&told->text, &told->length);
+    if (!to)
+        fail(FAILED, "no memory for a message");
+    return to;
+}
+
+void told_all(FILE *to)
+{
+    if (fclose(to) != 0)
+        fail(FAILED, "no memory for a message");
+}
+
 void output_failed(void)
 {
     fail(FAILED, "standard output: %s", strerror(errno));

@@ -16,7 +16,7 @@ static _Noreturn void file_failed(const char *name)
     fail(FAILED, "%s: %s", name, strerror(errno));
 }
 
-struct file read_file(const char *name, size_t most)
+struct file read_file(const char *name, uint8_t *bytes, size_t most)
 {
     int standard = strcmp(name, "-") == 0;
     FILE *file = standard ? stdin : fopen(name, "rb");
@@ -25,7 +25,6 @@ struct file read_file(const char *name, size_t most)
         name = "standard input";
     if (!file || fstat(fileno(file), &is) != 0)
         file_failed(name);
-    uint8_t *bytes = memory(most);
     size_t length = fread(bytes, 1, most, file);
     if (ferror(file))
         file_failed(name);
@@ -142,44 +141,55 @@ static void write_regular(const char *to, const struct stat *old, const uint8_t 
 
 /* ---- which of them */
 
-/* Ends where `is` tells of the file `from`, whatever name it was reached by. */
-static void spare(struct file from, const struct stat *is, const char *name)
+static const char standard_output[] = "standard output";
+
+/* Ends where `is` tells of a file that was read, whatever name it was reached by. */
+static void spare(struct files from, const struct stat *is, const char *name)
 {
-    if (from.device == is->st_dev && from.inode == is->st_ino)
-        fail(FAILED, "%s is the file that was read, and is left as it is", name);
+    for (size_t i = 0; i < from.count; i++)
+        if (from.files[i].device == is->st_dev && from.files[i].inode == is->st_ino)
+            fail(FAILED, "%s is %s that %s read, and is left as it is", name, from.count > 1 ? "one of the files" : "the file",
+                 from.count > 1 ? "were" : "was");
 }
 
-static void write_standard(struct file from, const uint8_t *bytes, size_t length)
+/* Whether `to` is there; then `old` tells of it. Ends where it may not be written to. */
+static int is_there(struct files from, const char *to, int replace, struct stat *old)
 {
-    static const char name[] = "standard output";
+    if (stat(to, old) != 0) {
+        if (errno != ENOENT)
+            file_failed(to);
+        if (lstat(to, old) == 0)
+            fail(FAILED, "%s is a link to a file that is not there", to);
+        return 0;
+    }
+    spare(from, old, to);
+    if (!replace && (S_ISREG(old->st_mode) || S_ISBLK(old->st_mode)))
+        fail(FAILED, "%s is there already: -f replaces it", to);
+    if (S_ISREG(old->st_mode) && !(old->st_mode & 0222))
+        fail(FAILED, "%s is read-only, and is left as it is", to);
+    return 1;
+}
+
+void look_at(struct files from, const char *to, int replace)
+{
     struct stat is;
-    if (fstat(STDOUT_FILENO, &is) != 0)
-        file_failed(name);
-    spare(from, &is, name);
-    write_plainly(name, STDOUT_FILENO, bytes, length);
+    if (strcmp(to, "-") != 0)
+        is_there(from, to, replace, &is);
+    else if (fstat(STDOUT_FILENO, &is) != 0)
+        file_failed(standard_output);
+    else
+        spare(from, &is, standard_output);
 }
 
-void write_file(struct file from, const char *to, int replace, const uint8_t *bytes, size_t length)
+void write_file(struct files from, const char *to, int replace, const uint8_t *bytes, size_t length)
 {
     struct stat old;
     if (strcmp(to, "-") == 0) {
-        write_standard(from, bytes, length);
-        return;
-    }
-    if (stat(to, &old) != 0) {
-        if (errno != ENOENT)
-            file_failed(to);
-        if (lstat(to, &old) == 0)
-            fail(FAILED, "%s is a link to a file that is not there", to);
+        look_at(from, to, replace);
+        write_plainly(standard_output, STDOUT_FILENO, bytes, length);
+    } else if (!is_there(from, to, replace, &old))
         write_regular(to, NULL, bytes, length);
-        return;
-    }
-    spare(from, &old, to);
-    if (!replace && (S_ISREG(old.st_mode) || S_ISBLK(old.st_mode)))
-        fail(FAILED, "%s is there already: -f replaces it", to);
-    if (S_ISREG(old.st_mode) && !(old.st_mode & 0222))
-        fail(FAILED, "%s is read-only, and is left as it is", to);
-    if (S_ISREG(old.st_mode))
+    else if (S_ISREG(old.st_mode))
         write_regular(to, &old, bytes, length);
     else
         write_to_device(to, bytes, length);

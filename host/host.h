@@ -17,6 +17,15 @@ void say(const char *format, ...) __attribute__((format(printf, 1, 2)));
 /* One line on standard error, then the end. */
 _Noreturn void fail(int status, const char *format, ...) __attribute__((format(printf, 2, 3)));
 
+/* A text that is written to as to a file, and whole once that is closed by told_all. The caller frees it. */
+struct told {
+    char *text;
+    size_t length;
+};
+
+FILE *told_to(struct told *told);
+void told_all(FILE *to);
+
 /* The end, where standard output takes no more. */
 _Noreturn void output_failed(void);
 
@@ -35,11 +44,20 @@ struct file {
     ino_t inode;
 };
 
-/* The first `most` bytes of a file, or all; "-" is standard input. */
-struct file read_file(const char *name, size_t most);
+/* The first `most` bytes of a file, or all, to `bytes`; "-" is standard input. */
+struct file read_file(const char *name, uint8_t *bytes, size_t most);
+
+/* The files that were read. */
+struct files {
+    const struct file *files;
+    size_t count;
+};
+
+/* Ends where write_file would not write to `to`, before the work for it is done. */
+void look_at(struct files from, const char *to, int replace);
 
 /*
- * Writes all the bytes to `to`, which is never `from` itself.
+ * Writes all the bytes to `to`, which is never a file of `from`.
  *
  * A regular file is written under another name beside it, flushed to the disk and renamed, so that it is there whole or
  * not at all. One that is there already is replaced only if `replace`, and not where it is read-only; its mode stays,
@@ -47,12 +65,15 @@ struct file read_file(const char *name, size_t most);
  * Pipes and devices are written to as they are (a disk only if `replace`), and "-" is standard output. Nothing is ever
  * removed but the other name.
  */
-void write_file(struct file from, const char *to, int replace, const uint8_t *bytes, size_t length);
+void write_file(struct files from, const char *to, int replace, const uint8_t *bytes, size_t length);
 
 /* ---- blocks.c: the block in a file, and what the library says of it */
 
 /* The # of a block is looked for in so many bytes: words such as "C1:WF ALL," that an oscilloscope answers stand before it. */
 #define WORDS_MOST ((size_t)64)
+
+/* Of a file so many bytes are read: one more than the longest block with the longest words, which is refused. */
+#define READ_MOST (TESSARQUIN_BLOCK_MOST + WORDS_MOST + 1u)
 
 struct block {
     struct file file;
@@ -60,7 +81,7 @@ struct block {
     size_t length;
 };
 
-/* Where a part of the payload stands. */
+/* A part of the payload. */
 struct part {
     const uint8_t *bytes;
     size_t length;
@@ -72,13 +93,18 @@ struct opened {
     uint32_t segments, points, arrays, order, type;
     uint32_t first, sparsing, index;
     const uint8_t *payload;
-    struct part trigtime, ristime, samples[2];
+    struct part text, trigtime, ristime, samples[2];
 };
 
+/* The block in the bytes of a file; and in a file that is read. */
+struct block block_in(struct file file);
 struct block read_block(const char *name);
 
 /* The block opened, or the end with its refusal. */
 struct opened open_block(struct block block);
+
+/* How many bytes the block has without the new line behind it. */
+size_t length_of_block(const struct opened *o);
 
 /* A segment as a block of its own: its points have the same bits and marks, and a call judges its trigger entry alone.
    `bytes` is the caller's to free. */
@@ -113,7 +139,19 @@ struct asked {
 _Noreturn void refuse_block(struct block block, uint32_t refusal);
 _Noreturn void refuse_question(const char *what, const struct opened *o, struct asked asked, uint32_t refusal);
 
-/* ---- show.c, rail.c, points.c: the commands */
+/* ---- unfit.c, differ.c: why files cannot be joined */
+
+/* A line for each thing that stands in the way of a join that was refused. The files are by segment index, and are the
+   first of so many that were given. Answers how many lines that were. */
+size_t tell_unfit(const struct opened *parts, size_t count, size_t given);
+
+/* Whether two blocks have another descriptor, but for SEGMENT_INDEX, or another user text. */
+int differ(const struct opened *one, const struct opened *other);
+
+/* The fields of `one` that are others than those of `other`, both as they are there, and the user text. */
+void found_different(FILE *to, const struct opened *one, const struct opened *other);
+
+/* ---- show.c, rail.c, points.c, join.c: the commands */
 
 /* Numbers that were worked out have so many digits. */
 void show(const char *name, int digits);
@@ -129,6 +167,9 @@ struct form {
 
 /* Of all segments where `segment` is null. */
 void print_points(const char *name, uint32_t array, const uint32_t *segment, struct form form);
+
+/* The segments in these files, in whatever order, as one block to `to`. */
+void join(const char *to, int replace, const char *const *names, size_t count);
 
 /* ---- words.c: texts and whole numbers for a person */
 
@@ -158,6 +199,9 @@ const char *wave_source(int n);
 
 /* The fewest of 15, 16 and 17 digits that are read back as x, without zeros at their end: at most DECIMAL_MOST bytes. */
 char *put_decimal(char *to, double x);
+
+/* A float in the fewest digits, from six on, that are read back as the same float: at most DECIMAL_MOST bytes. */
+char *put_float(char *to, float x);
 
 /* x in so many digits, from 1 to 17, without zeros at their end: at most DECIMAL_MOST bytes. */
 char *put_digits(char *to, double x, int digits);

@@ -2,8 +2,6 @@
 #include "host.h"
 #include "tessarquin.h"
 
-#include <stdlib.h>
-
 /* ---- fields of an opened block */
 
 static int word_at(const struct opened *o, size_t at)
@@ -78,15 +76,10 @@ static void print_unit(struct part unit)
     write_text(stdout, unit.bytes, unit.length);
 }
 
-/* A float in the fewest digits, from six on, that are read back as the same float. */
 static void print_float(float x)
 {
-    char room[DECIMAL_MOST];
-    for (int digits = 6; digits <= 9; digits++) {
-        snprintf(room, sizeof room, "%.*g", digits, x);
-        if (strtof(room, NULL) == x)
-            break;
-    }
+    char room[DECIMAL_MOST + 1];
+    *put_float(room, x) = 0;
     fputs(room, stdout);
 }
 

@@ -4,6 +4,7 @@
 
 #include <ctype.h>
 #include <errno.h>
+#include <limits.h>
 #include <signal.h>
 #include <stdlib.h>
 
@@ -13,6 +14,7 @@ static const char help[] =
     "    trace show [--digits N] FILE                                what the file holds\n"
     "    trace points [--csv] [--digits N] FILE [ARRAY [SEGMENT]]    its points, in volts and seconds\n"
     "    trace cut [-f] FILE OUT SP NP FP SN hi|lo                   a smaller file\n"
+    "    trace join [-f] OUT FILE..                                  one file of segments that were fetched one by one\n"
     "    trace --help | --version\n"
     "\n"
     "FILE may be - for standard input. Words before the # of a block, as an oscilloscope answers, are skipped, where the #\n"
@@ -33,8 +35,14 @@ static const char help[] =
     "whole or as it was, it is never FILE itself, and where it is there already only -f replaces it, and not where it is\n"
     "read-only. OUT may be a pipe, or - for standard output. What was written is told on standard error.\n"
     "\n"
+    "join takes the segments of one acquisition in any order, each in a FILE of its own, as WAVEFORM_SETUP with SN or a cut\n"
+    "with SN gives it, and writes them to OUT as one sequence, by their segment index: 1 to n, at most 1,000, each once. All\n"
+    "else in the descriptors, and the user text, has to be the same. Which file has which segment is told on standard error;\n"
+    "where they do not fit, all that stands in the way. What is said of OUT at cut holds here too: it is never a FILE.\n"
+    "\n"
     "It ends with 0; 1 where the file or what was asked of it is refused; 2 where it was called wrongly; 3 where a file or\n"
-    "the memory failed, or OUT is in the way. What went wrong stands in one line on standard error.\n";
+    "the memory failed, or OUT is in the way. What went wrong stands in one line on standard error, the last where there\n"
+    "are more.\n";
 
 static int is(const char *word, const char *other)
 {
@@ -48,8 +56,11 @@ enum { CSV = 1, DIGITS = 2, FORCE = 4 };
 /* What stands behind the command's name. */
 struct line {
     int count, csv, digits, replace;
-    const char *words[7];
+    const char **words;
 };
+
+/* As many words as there are. */
+enum { ANY = INT_MAX };
 
 struct command {
     const char *name, *takes;
@@ -89,7 +100,7 @@ static int is_option(const char *word)
 
 static struct line read_line(const struct command *c, int count, char **words)
 {
-    struct line line = {0};
+    struct line line = {.words = memory((size_t)count * sizeof *line.words)};
     int plain = 0;
     for (int i = 0; i < count; i++) {
         if (plain || !is_option(words[i])) {
@@ -144,15 +155,21 @@ static void run_cut(const struct line *line)
     if (refusal)
         refuse_question("a cut of ", &o, (struct asked){0, sn, fp, sp}, refusal);
     size_t length = (size_t)tessarquin_number(answer, TESSARQUIN_CUT_LENGTH);
-    write_file(b.file, to, line->replace, out, length);
+    write_file((struct files){&b.file, 1}, to, line->replace, out, length);
     say("%s of each segment kept, %s written to %s", counted((int64_t)tessarquin_number(answer, TESSARQUIN_CUT_COUNT), "point"),
         counted((int64_t)length, "byte"), is(to, "-") ? "standard output" : to);
+}
+
+static void run_join(const struct line *line)
+{
+    join(line->words[0], line->replace, line->words + 1, (size_t)line->count - 1);
 }
 
 static const struct command commands[] = {
     {"show", "one FILE", 1, 1, DIGITS, run_show},
     {"points", "FILE [ARRAY [SEGMENT]]", 1, 3, CSV | DIGITS, run_points},
     {"cut", "FILE OUT SP NP FP SN hi|lo", 7, 7, FORCE, run_cut},
+    {"join", "OUT FILE..", 2, ANY, FORCE, run_join},
 };
 
 static void command(int count, char **words)

@@ -37,25 +37,10 @@ static const char *what_to_do(uint32_t refusal)
     return "";
 }
 
-/* A text that is written to as a file, and read once it is told. */
-struct told {
-    char *text;
-    size_t length;
-};
-
-static FILE *told_to(struct told *told)
-{
-    FILE *to = open_memstream(&told->text, &told->length);
-    if (!to)
-        fail(FAILED, "no memory for a message");
-    return to;
-}
-
 /* What is refused: the whole file, where `what` is empty, or something of it. */
 static _Noreturn void refuse(const char *what, const char *file, uint32_t refusal, FILE *to, struct told *told)
 {
-    if (fclose(to) != 0)
-        fail(FAILED, "no memory for a message");
+    told_all(to);
     if (told->length == 0)
         fail(REFUSED, "%s%s is refused (%u): %s", what, file, (unsigned)refusal, tessarquin_text(refusal));
     fail(REFUSED, "%s%s is refused (%u): %s; %s", what, file, (unsigned)refusal, told->text, what_to_do(refusal));

@@ -8,7 +8,7 @@
  * starts at byte 2 + d.
  * Whatever stands before the '#' is for the caller to remove.
  *
- * Seven calls, each proved to meet its description for every input:
+ * Eight calls, each proved to meet its description for every input:
  *
  *     tessarquin_open       is this a block that obeys the template, and what is in it?
  *     tessarquin_layout     where do the descriptor and the other parts stand?
@@ -17,6 +17,7 @@
  *     tessarquin_point      one point, in volts and seconds, and whether its sample stands at the rail
  *     tessarquin_fill       all the points of a segment, in volts, and how many samples stand at the rail
  *     tessarquin_cut        a smaller block: some segments, every so many-th point, in either byte order
+ *     tessarquin_join       one block of the segments that were fetched one by one, in whatever order they arrived
  *
  * What holds for all of them
  *
@@ -54,17 +55,18 @@
 extern "C" {
 #endif
 
-/* The version of these calls. Below 1.0 the second number moves where a call takes or answers something else: since 0.2
-   tessarquin_point answers 24 bytes (16 before), and tessarquin_fill eight bytes behind its M values. Whoever fills
-   segments back to back leaves room for them. Header and archive have to be of one version. */
+/* The version of these calls. Below 1.0 the second number moves where a call takes or answers something else, and where
+   one is added. Since 0.2 tessarquin_point answers 24 bytes (16 before), and tessarquin_fill eight bytes behind its M
+   values: whoever fills segments back to back leaves room for them. Since 0.3 there is tessarquin_join, with the refusal
+   16; what was there before is as it was. Header and archive have to be of one version. */
 #define TESSARQUIN_VERSION_MAJOR 0
-#define TESSARQUIN_VERSION_MINOR 2
-#define TESSARQUIN_VERSION "0.2"
+#define TESSARQUIN_VERSION_MINOR 3
+#define TESSARQUIN_VERSION "0.3"
 
 /*
  * Why a call is refused, in the order of the checks: the first that applies is the number returned. Each entry is the
  * name, the number, when it is given, and what the caller can do. A host makes tables of its own from the list, in its
- * own language for example. 14 was never given and is not used; no call here gives 15 to 19.
+ * own language for example. 14 was never given and is not used; no call here gives 15 or 17 to 19.
  */
 #define TESSARQUIN_REFUSALS(X)                                                                                         \
     X(FRAME, 1, "it does not start with #, a digit d from 1 to 9, and d digits",                                       \
@@ -93,6 +95,8 @@ extern "C" {
       "ask for one that is there, from 0 on")                                                                          \
     X(SPARSE, 12, "the block is thinned too much already for this step",                                               \
       "cut with a smaller SP: its product with SPARSING_FACTOR has to be 268,435,455 or below")                        \
+    X(JOIN, 16, "the parts are not the segments 1 to n, at most 1,000, of one trace, or together they are no block",   \
+      "join every segment of one acquisition once, each fetched alone by its SN and all in the same form")             \
     X(ROOM, 13, "a slice lent for the answer is too short",                                                            \
       "lend as many bytes as the call says that its answer takes")
 
@@ -297,6 +301,68 @@ uint32_t tessarquin_cut(const uint8_t *block, size_t block_len,
                         uint32_t sp, uint32_t np, uint32_t fp, uint32_t sn, uint32_t order,
                         uint8_t *out, size_t out_len,
                         uint8_t *answer, size_t answer_len);
+
+/* ---- joins */
+
+/* The numbers that tessarquin_join answers. */
+enum tessarquin_join_number {
+    TESSARQUIN_JOIN_PARTS, /* n, how many parts there are: the segments of the block written, from 1 to 1,000 */
+    TESSARQUIN_JOIN_LENGTH /* the bytes written to out */
+};
+#define TESSARQUIN_JOIN_BYTES 16u
+
+/* The joined payload is never longer than those of the parts together, and its header is always "#9" and nine digits. So
+   this many bytes more than the parts have are room for any join of them; of more than one part the block is always
+   shorter than they are. It is never longer than TESSARQUIN_BLOCK_MOST either. */
+#define TESSARQUIN_JOIN_MORE 6u
+
+/*
+ * Joins the segments of one trace, each a block of its own, into one block with all of them: refusals 1 to 8 and 20 for
+ * the first part that is bad, then 16, then 13 if out or answer is too short.
+ *
+ * The parts stand back to back in `parts`, in any order, from one # to the next, until parts_len is used up. Each ends
+ * behind the bytes that its header says: a new line behind a part, or words before one, are for the caller to remove,
+ * and are refused by 1. A part that ends too early is refused by 1 within its header and by 2 behind it. All parts are
+ * judged before 16 is, so a bad one behind 1,000 good ones gives its own number.
+ *
+ * A part is what the oscilloscope answers where WAVEFORM_SETUP has an SN, or what a cut with sn writes: it has one
+ * segment, and its SEGMENT_INDEX says which. 16 is given where
+ *     there are no parts, or more than 1,000;
+ *     a part has more than one segment;
+ *     the n parts do not have the SEGMENT_INDEXes from 1 to n, each once;
+ *     two parts have another descriptor or another user text: the 346 bytes of all but for SEGMENT_INDEX are the same,
+ *     byte order, reserved words and the bytes behind a name among them (headers, tables and samples are their own);
+ *     a TRIGGER_TIME is less than that of the segment before it;
+ *     there are RIS offsets, and n is above 1;
+ *     or the joined payload would have more than 16,777,216 bytes.
+ *
+ * The block goes to out, with the header "#9", no new line, and the byte order of the parts; room of parts_len +
+ * TESSARQUIN_JOIN_MORE is always enough. It has the segments of each array, and the trigger entries, by SEGMENT_INDEX,
+ * so every order of the parts gives the same bytes. Changed are SUBARRAY_COUNT, which is n, SEGMENT_INDEX, which is 0,
+ * WAVE_ARRAY_COUNT and the lengths of TRIGTIME and of the arrays; every other field, the user text and RIS offsets are
+ * those of the parts. What is written obeys the rules: no call refuses it by 1 to 8 or 20. A point of segment k has the
+ * value, the time and the mark that it has in part k, bit for bit; and where each part was written by a cut with sn, the
+ * cut of the joined block by sp 1, np 0, fp 0, sn k and the same order is part k again.
+ *
+ * Parts that arrived one by one, and were laid back to back:
+ *
+ *     uint8_t join[TESSARQUIN_JOIN_BYTES], *joined = (uint8_t *)malloc(parts_len + TESSARQUIN_JOIN_MORE);
+ *     if (joined) {
+ *         uint32_t refusal = tessarquin_join(parts, parts_len, joined, parts_len + TESSARQUIN_JOIN_MORE, join, sizeof join);
+ *         if (refusal == TESSARQUIN_OK)
+ *             printf("%u segments in %u bytes\n", (unsigned)tessarquin_number(join, TESSARQUIN_JOIN_PARTS),
+ *                    (unsigned)tessarquin_number(join, TESSARQUIN_JOIN_LENGTH));
+ *         else
+ *             printf("%s\n", tessarquin_text(refusal));
+ *         free(joined);
+ *     }
+ *
+ * Which part is bad, or does not fit, no number says: host/join.c opens each before it joins them, and host/unfit.c
+ * finds what stands in the way of a join that was refused.
+ */
+uint32_t tessarquin_join(const uint8_t *parts, size_t parts_len,
+                         uint8_t *out, size_t out_len,
+                         uint8_t *answer, size_t answer_len);
 
 /* ---- answers and refusals, read */
 

@@ -1,15 +1,15 @@
 # What the program says of itself, what README prints, the starter for other machines, and what the makefile says is
 # missing.
 
-expect 0 'trace 0.2: reads LECROY_2_3 waveform files' --help
+expect 0 'trace 0.3: reads LECROY_2_3 waveform files' --help
 cp "$folder/out" "$folder/help"
-for words in 'show --help' 'points --help' 'cut --help' '--help show'; do
+for words in 'show --help' 'points --help' 'cut --help' 'join --help' '--help show'; do
     asked $words
     [ "$got" = 0 ] || wrong "trace $words: status $got"
     same "$folder/out" "$folder/help" "trace $words says something else"
 done
-expect 0 'trace 0.2' --version
-expect 0 'trace 0.2' --version x
+expect 0 'trace 0.3' --version
+expect 0 'trace 0.3' --version x
 expect 2 'trace: nothing was asked; trace --help tells how it is called'
 expect 2 'trace: shw is not known; trace --help tells how it is called' shw "$sample"
 expect 2 'trace: an empty word is not known; trace --help tells how it is called' ''
@@ -54,7 +54,8 @@ done < <(awk '/^```console$/ { on = 1; next } on; /^```$/ { on = 0 }' README.md)
 grep -qF "prints \`$($run "$programs/first" <"$sample")\`, the first point of the sample" README.md || wrong 'the first program prints something else than README says'
 
 [ "$($run "$programs/printed" <"$sample")" = 'V
-2 of 16 at the rail' ] || wrong "the lines of the header print $($run "$programs/printed" <"$sample")"
+2 of 16 at the rail
+3 segments in 525 bytes' ] || wrong "the lines of the header print $($run "$programs/printed" <"$sample")"
 
 # ---- where the machine is not x86-64, `trace` is a script; a link to it starts the same program
 
