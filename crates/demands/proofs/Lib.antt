@@ -1,0 +1,5 @@
+pub mod Written
+pub mod Order
+pub mod Segments
+pub mod Back
+pub mod Circle
