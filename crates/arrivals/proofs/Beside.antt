@@ -6,7 +6,7 @@ use mathlib.Core.Bool.{true, false, _&&_}
 use mathlib.Core.List.{List}
 use lib.ListN.{length, getD, take, drop}
 use lib.Dec.{eqb}
-use Rattle.rules.specs.Numbers.{Bytes, number, startsFrom}
+use Rattle.rules.specs.Numbers.{Bytes, startsFrom}
 use Rattle.rules.specs.Wave.{startsOf, waveOf, decode}
 use Rattle.rules.specs.Rules.{same, payloadStart, stated, payload, refusal, opened}
 use Rattle.rules.proofs.Tests.{and-true, and-intro}
@@ -18,8 +18,9 @@ use Rattle.joining.proofs.Lists.{same-eq, eq-same}
 use Rattle.joining.proofs.Alike.{heads-alike}
 use Rattle.joining.proofs.Compared.{SameBytes, alike-bytes, heads-same}
 use Rattle.parts.specs.Parts.{this}
-use Rattle.parts.proofs.Standing.{reach, in-slice, byte-in}
-use Rattle.parts.proofs.Tables.{order-there, text-length-there, stretch-there, stretch-ends}
+use Rattle.parts.proofs.Standing.{reach, in-slice}
+use Rattle.parts.proofs.Tables.{stretch-there, stretch-ends}
+use Rattle.parts.proofs.Fields.{descriptor-there}
 use Rattle.arrivals.specs.Arrivals.{alike?, Comparable}
 
 -- ---- one good part
@@ -33,9 +34,6 @@ module _ (s : List ℕ) (at start : ℕ) (h : at < length s) (b : Bytes (this s 
 
   long : 346 ≤ stated (this s at)
   long = sized-opened (this s at) b z .least
-
-  pub there : start + 346 ≤ length s
-  there = omega (arith, long, payload-there (this s at) b z, reach s at h)
 
   front-in : take 140 (payload (this s at)) ≡ part s start 140
   front-in = let m : start + 0 ≡ start = omega arith in payload-in 140 0 (omega (arith, long)) ∙ ap (λ (n : ℕ). part s n 140) m
@@ -62,16 +60,6 @@ module _ (s : List ℕ) (at start : ℕ) (h : at < length s) (b : Bytes (this s 
   pub text-end : start + 346 + opened (this s at) .head 40 ≤ length s
   text-end = omega (arith, text-long, payload-there (this s at) b z, reach s at h)
 
-  -- USER_TEXT as it is read
-  pub text-read : number (getD s (start + 34) 0) (take 4 (drop (start + 40) s)) ≡ opened (this s at) .head 40
-  text-read =
-      let p : List ℕ = this s at in
-      let m : at + (payloadStart p + 34) ≡ start + 34 = omega arith in
-      let n : at + (payloadStart p + 40) ≡ start + 40 = omega arith in
-      let o : getD p (payloadStart p + 34) 0 ≡ getD s (start + 34) 0 = byte-in s at h (payloadStart p + 34) (omega (arith, long, payload-there p b z)) ∙ ap (λ (k : ℕ). getD s k 0) m in
-      ap (number (getD s (start + 34) 0)) (sym (in-slice s at h 4 (payloadStart p + 40) (omega (arith, long, payload-there p b z)) ∙ ap (λ (k : ℕ). part s k 4) n))
-      ∙ text-length-there p b z (getD s (start + 34) 0) (sym o ∙ order-there p b z)
-
 -- ---- beside the first
 
 module _ (s : List ℕ) (here lead start text : ℕ) (h : here < length s) (bq : Bytes (this s 0)) (zq : refusal (this s 0) ≡ 0) (bp : Bytes (this s here)) (zp : refusal (this s here) ≡ 0)
@@ -93,7 +81,7 @@ module _ (s : List ℕ) (here lead start text : ℕ) (h : here < length s) (bq :
   pub comparable : Comparable s lead start text
   comparable = record {
     first = subst (λ (t : ℕ). lead + 346 + t ≤ length s) (sym e) (text-end s 0 lead some bq zq q);
-    second = there s here start h bp zp p;
+    second = descriptor-there s here start h bp zp p;
     behind = λ x y. subst (λ (t : ℕ). start + 346 + t ≤ length s) (sym (e ∙ heads-if x y 40 refl)) (text-end s here start h bp zp p);
   }
 

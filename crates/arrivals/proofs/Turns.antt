@@ -10,20 +10,16 @@ use borrow.Author.Tests.{leb-true, eqb-true}
 use Rattle.rules.specs.Numbers.{Bytes, upFrom}
 use Rattle.rules.specs.Rules.{every?, payloadStart, refusal, opened}
 use Rattle.rules.proofs.Tests.{and-true, and-intro}
-use Rattle.rules.proofs.Numbers.{below-take, below-drop}
-use Rattle.joining.specs.Join.{partEnd, partsIn, indexOf, common, joinRefusal}
+use Rattle.joining.specs.Join.{partsIn, indexOf, common, joinRefusal}
 use Rattle.joining.proofs.Says.{Together}
 use Rattle.seen.specs.Seen.{seenOf}
 use Rattle.seen.proofs.Bits.{seen-none}
 use Rattle.parts.specs.Parts.{this}
-use Rattle.parts.proofs.Standing.{parts-left}
+use Rattle.parts.proofs.Standing.{this-bytes, parts-left}
 use Rattle.arrivals.specs.declared.Judged.{Judged}
 use Rattle.arrivals.specs.Arrivals.{index?, alike?, belongs?, Comparable, Judges}
 use Rattle.arrivals.proofs.Beside.{comparable, alike-if, alike-only}
 use Rattle.arrivals.proofs.Meeting.{Kept, Met, met-none, met-step, this-kept, this-alike, count-is, met-together, together-met, met-apart}
-
-pub this-bytes : (s : List ℕ) (at : ℕ) → Bytes s → Bytes (this s at)
-this-bytes s at b = below-take 256 (partEnd (drop at s)) (drop at s) (below-drop 256 at s b)
 
 -- an index that was tested
 pub index-says : (k : ℕ) → index? k ≡ true → (1 ≤ k) × (k < 1024)

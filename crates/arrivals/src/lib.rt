@@ -44,8 +44,8 @@ fn meet(parts: &[u8], first: Part) -> Judged
     let text = text_length(parts, lead);
     let index = first.index as usize;
     let mut together = is_index(index);
-    let none = [0u64; 16];
-    let mut seen = with_index(none, index, together);
+    let mut seen = [0u64; 16];
+    note(&mut seen, index, together);
     let mut count: usize = 1;
     let mut here = first.end;
     while here < parts.len() {
@@ -55,9 +55,8 @@ fn meet(parts: &[u8], first: Part) -> Judged
             return refused(number);
         }
         let k = part.index as usize;
-        let fits = belongs(parts, lead, part.start, text, seen, k);
-        let more = with_index(seen, k, fits);
-        seen = more;
+        let fits = belongs(parts, lead, part.start, text, &seen, k);
+        note(&mut seen, k, fits);
         together = together & fits;
         count += 1;
         here = part.end;
@@ -65,7 +64,7 @@ fn meet(parts: &[u8], first: Part) -> Judged
     if 1000 < count {
         return refused(16);
     }
-    if !(together & seen::has_up_to(seen, count)) {
+    if !(together & seen::has_up_to(&seen, count)) {
         return refused(16);
     }
     Judged {
@@ -91,21 +90,23 @@ fn is_index(k: usize) -> bool
     (1 <= k) & (k <= 1000)
 }
 
-// Those seen, and k where it is a new one.
-fn with_index(seen: [u64; 16], k: usize, new: bool) -> [u64; 16]
-    requires { ⌜ (new ≡ true → (k < 1024) × (seenOf seen k ≡ 0)) ⌝ }
-    ensures { λ r. ⌜ (new ≡ true → (j : ℕ) → seenOf r j ≡ cond (eqb j k) 1 (seenOf seen j)) ⌝ }
+// Notes an index k where it is a new one.
+fn note(seen: &mut [u64], k: usize, new: bool)
+    requires { ⌜ length (now seen) ≡ 16 ⌝ }
+    requires { ⌜ (new ≡ true → (k < 1024) × (seenOf (now seen) k ≡ 0)) ⌝ }
+    ensures { λ _. ⌜ (new ≡ true → (j : ℕ) → seenOf (now (seen .exit)) j ≡ cond (eqb j k) 1 (seenOf (now (seen .entry)) j)) ⌝ }
 {
     if !new {
-        return seen;
+        return;
     }
-    seen::add(seen, k)
+    seen::add(seen, k);
 }
 
 // Whether the part whose payload starts at `start` belongs to those before it, by its index k, its descriptor and its user text.
-fn belongs(parts: &[u8], lead: usize, start: usize, text: usize, seen: [u64; 16], k: usize) -> bool
+fn belongs(parts: &[u8], lead: usize, start: usize, text: usize, seen: &[u64], k: usize) -> bool
     requires { ⌜ Comparable (now parts) lead start text ⌝ }
-    ensures { λ r. ⌜ r ≡ belongs? (now (parts .entry)) lead start text seen k ⌝ }
+    requires { ⌜ length (now seen) ≡ 16 ⌝ }
+    ensures { λ r. ⌜ r ≡ belongs? (now (parts .entry)) lead start text (now (seen .entry)) k ⌝ }
 {
     if !is_index(k) {
         return false;

@@ -3,3 +3,4 @@ pub mod Standing
 pub mod Scattering
 pub mod Walking
 pub mod Tables
+pub mod Fields

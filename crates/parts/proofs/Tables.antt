@@ -42,13 +42,9 @@ module _ (p : List ℕ) (b : Bytes p) (e : refusal p ≡ 0) where
       field-is o 4 (payloadStart p) p k w ∙ ap (λ (x : ℕ). headAt x (payloadStart p) p k) (q ∙ sym order-there)
       ∙ ap (λ (h : ℕ → ℕ). h k) (payload-head p (payload-there p b e) (sized-opened p b e .least))
 
-  pub index-there : (o : ℕ) → o ≡ orderOf (opened p .head) → number o (take 4 (drop (payloadStart p + 140) p)) ≡ opened p .head 140
+  index-there : (o : ℕ) → o ≡ orderOf (opened p .head) → number o (take 4 (drop (payloadStart p + 140) p)) ≡ opened p .head 140
   unfolding template widthAt
   index-there o q = long-there o 140 q refl
-
-  pub text-length-there : (o : ℕ) → o ≡ orderOf (opened p .head) → number o (take 4 (drop (payloadStart p + 40) p)) ≡ opened p .head 40
-  unfolding template widthAt
-  text-length-there o q = long-there o 40 q refl
 
   pub stretch-there : (i : ℕ) → i < 10 → stretch i p ≡ rowOf (getD (startsOf (opened p .head)) i 0) (getD (lengthsOf (opened p .head)) i 0) p
   unfolding opened decode waveOf part

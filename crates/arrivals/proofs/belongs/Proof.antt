@@ -26,20 +26,21 @@ is-index-requires c κs = search needs
 
 returns : tie.Need-returns
 returns c =
-    let a = c .before .before .before .args in
+    let a = c .before .before .before .before .args in
     stop-first (c .before .is-index .result) (index? (a .k)) _ (c .before .is-index .ensures) (not-true (c .before .is-index .result) (c .if1 .taken))
 
 has-requires : tie.Need-has-requires
 has-requires c κs =
     let i = c .before in
-    index-says (i .before .before .args .k) (sym (i .is-index .ensures) ∙ not-false (i .is-index .result) (c .if1 .left)) .1
+    let x = i .before .before .before in
+    (x .pre .1, index-says (x .args .k) (sym (i .is-index .ensures) ∙ not-false (i .is-index .result) (c .if1 .left)) .1)
 
 returns-2 : tie.Need-returns-2
 returns-2 c =
     let i = c .before .before .before in
-    let a = i .before .before .args in
-    stop-second (i .is-index .result) false (index? (a .k)) (eqb (seenOf (a .seen) (a .k)) 0) (alike? (a .parts .now) (a .lead) (a .start) (a .text))
-    (i .is-index .ensures) (not-false (i .is-index .result) (c .before .before .if1 .left)) (seen-already (c .before .has .result) (seenOf (a .seen) (a .k)) (c .before .has .ensures) (c .if2 .taken)) refl
+    let a = i .before .before .before .args in
+    stop-second (i .is-index .result) false (index? (a .k)) (eqb (seenOf (a .seen .now) (a .k)) 0) (alike? (a .parts .now) (a .lead) (a .start) (a .text))
+    (i .is-index .ensures) (not-false (i .is-index .result) (c .before .before .if1 .left)) (seen-already (c .before .has .result) (seenOf (a .seen .now) (a .k)) (c .before .has .ensures) (c .if2 .taken)) refl
 
 are-alike-requires : tie.Need-are-alike-requires
 are-alike-requires c κs = search needs
@@ -47,10 +48,10 @@ are-alike-requires c κs = search needs
 returns-3 : tie.Need-returns-3
 returns-3 c =
     let i = c .before .before .before .before in
-    let a = i .before .before .args in
-    all-three (i .is-index .result) true (c .are-alike .result) (index? (a .k)) (eqb (seenOf (a .seen) (a .k)) 0) (alike? (a .parts .now) (a .lead) (a .start) (a .text))
+    let a = i .before .before .before .args in
+    all-three (i .is-index .result) true (c .are-alike .result) (index? (a .k)) (eqb (seenOf (a .seen .now) (a .k)) 0) (alike? (a .parts .now) (a .lead) (a .start) (a .text))
     (i .is-index .ensures) (not-false (i .is-index .result) (c .before .before .before .if1 .left))
-    (unseen (c .before .before .has .result) (seenOf (a .seen) (a .k)) (seen-small (a .seen) (a .k)) (c .before .before .has .ensures) (c .before .if2 .left)) refl (c .are-alike .ensures)
+    (unseen (c .before .before .has .result) (seenOf (a .seen .now) (a .k)) (seen-small (a .seen .now) (a .k)) (c .before .before .has .ensures) (c .before .if2 .left)) refl (c .are-alike .ensures)
 
 pub belongs-spec : {M : Type 1} → statement M
 belongs-spec =

@@ -1,13 +1,14 @@
 -- USER_TEXT, read where it stands.
-use mathlib.Core.Path.{_≡_, _∙_}
+use mathlib.Core.Path.{_≡_, refl, _∙_}
 use Prim.Native.Nat.{_+_, _≤_}
 use native.Mathlib.Omega.{arith}
 use lib.ListN.{length}
 use borrow.Author.Needs.{needs}
 use Rattle.rules.specs.Numbers.{Bytes}
+use Rattle.rules.specs.Template.{template, widthAt}
 use Rattle.rules.proofs.Numbers.{below-index}
-use Rattle.arrivals.proofs.Beside.{there, text-read}
-use Rattle.arrivals.proofs.Turns.{this-bytes}
+use Rattle.parts.proofs.Standing.{this-bytes}
+use Rattle.parts.proofs.Fields.{descriptor-there, long-read}
 use Rattle.arrivals.proofs.text_length.Statement.{statement}
 use Rattle.arrivals.proofs.text_length.Tie as tie
 
@@ -18,7 +19,7 @@ room : (c : tie.After-shared-slice-known) → c .before .args .lead + 346 ≤ le
 room c =
     let a = c .before .args in
     let p = c .before .pre in
-    there (a .parts .now) 0 (a .lead) (p .0) (this-bytes (a .parts .now) 0 (bytes c)) (p .1) (omega (arith, p .2))
+    descriptor-there (a .parts .now) 0 (a .lead) (p .0) (this-bytes (a .parts .now) 0 (bytes c)) (p .1) (omega (arith, p .2))
 
 add-order : tie.Need-add-order
 add-order c = omega (arith, room c)
@@ -39,11 +40,12 @@ cast-result : tie.Need-cast-result
 cast-result c = search needs
 
 returns : tie.Need-returns
+unfolding template widthAt
 returns c =
     let first = c .before .before in
     let a = first .before .args in
     let p = first .before .pre in
-    c .u32-at .ensures ∙ text-read (a .parts .now) 0 (a .lead) (p .0) (this-bytes (a .parts .now) 0 (bytes first)) (p .1) (omega (arith, p .2))
+    c .u32-at .ensures ∙ long-read (a .parts .now) 0 (a .lead) (p .0) (this-bytes (a .parts .now) 0 (bytes first)) (p .1) (omega (arith, p .2)) 40 refl (omega arith)
 
 pub text-length-spec : {M : Type 1} → statement M
 text-length-spec =

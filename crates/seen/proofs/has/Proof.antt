@@ -6,8 +6,8 @@ use Rattle.seen.proofs.has.Tie as tie
 mul-word : tie.Need-mul-word
 mul-word c = search needs
 
-array-read-word : tie.Need-array-read-word
-array-read-word c = search needs
+shared-slice-read-word : tie.Need-shared-slice-read-word
+shared-slice-read-word c = search needs
 
 shr-result : tie.Need-shr-result
 shr-result c = search needs
@@ -17,4 +17,4 @@ unfolding seenOf
 returns c = search needs
 
 pub has-spec : {M : Type 1} → statement M
-has-spec = tie.close (tie.spec mul-word array-read-word shr-result returns)
+has-spec = tie.close (tie.spec mul-word shared-slice-read-word shr-result returns)

@@ -35,15 +35,15 @@ loop-less c = search needs
 
 loop-again : tie.Need-loop-again Inv-loop μ-loop
 loop-again c =
-    let a = c .before .before .before .args in
+    let a = c .before .before .before .before .args in
     let l = c .before .before .loop in
-    (omega arith, next-seen (a .seen) (l .k) (l .left) (every? (λ j. eqb (seenOf (a .seen) j) 1) (upFrom 1 (a .n))) (l .ok) (c .has .result) (c .before .loop-test .taken) (l .inv .1) (c .has .ensures))
+    (omega arith, next-seen (a .seen .now) (l .k) (l .left) (every? (λ j. eqb (seenOf (a .seen .now) j) 1) (upFrom 1 (a .n))) (l .ok) (c .has .result) (c .before .loop-test .taken) (l .inv .1) (c .has .ensures))
 
 returns : tie.Need-returns Inv-loop μ-loop
 returns c =
-    let a = c .before .before .args in
+    let a = c .before .before .before .args in
     let l = c .before .loop in
-    last-seen (a .seen) (l .k) (l .left) (every? (λ j. eqb (seenOf (a .seen) j) 1) (upFrom 1 (a .n))) (l .ok) (omega arith) (l .inv .1)
+    last-seen (a .seen .now) (l .k) (l .left) (every? (λ j. eqb (seenOf (a .seen .now) j) 1) (upFrom 1 (a .n))) (l .ok) (omega arith) (l .inv .1)
 
 pub has-up-to-spec : {M : Type 1} → statement M
 has-up-to-spec =
