@@ -47,21 +47,21 @@ one-rises [] h = refl
 one-rises (t ∷ []) h = refl
 one-rises (t ∷ u ∷ ts) h = absurd (omega arith)
 
--- ---- windows of 64
+-- ---- windows of 32
 
-module _ (ts : List ℕ) (n skip m : ℕ) (l : n ≡ length ts) (e : m ≡ min (n - skip) 64) where
+module _ (ts : List ℕ) (n skip m : ℕ) (l : n ≡ length ts) (e : m ≡ min (n - skip) 32) where
   -- as many as there are
-  window-is : take m (drop skip ts) ≡ take 64 (drop skip ts)
-  window-is = go (leb (n - skip) 64) refl
+  window-is : take m (drop skip ts) ≡ take 32 (drop skip ts)
+  window-is = go (leb (n - skip) 32) refl
     where
-      go : (t : Bool) → leb (n - skip) 64 ≡ t → take m (drop skip ts) ≡ take 64 (drop skip ts)
+      go : (t : Bool) → leb (n - skip) 32 ≡ t → take m (drop skip ts) ≡ take 32 (drop skip ts)
       go true q =
-          let f : n - skip ≤ 64 = leb-true (n - skip) 64 q in
-          take-all m (drop skip ts) (omega (arith, length-drop skip ts)) ∙ sym (take-all 64 (drop skip ts) (omega (arith, length-drop skip ts)))
-      go false q = let f : m ≡ 64 = omega (arith, leb-false (n - skip) 64 q) in ap (λ (k : ℕ). take k (drop skip ts)) f
+          let f : n - skip ≤ 32 = leb-true (n - skip) 32 q in
+          take-all m (drop skip ts) (omega (arith, length-drop skip ts)) ∙ sym (take-all 32 (drop skip ts) (omega (arith, length-drop skip ts)))
+      go false q = let f : m ≡ 32 = omega (arith, leb-false (n - skip) 32 q) in ap (λ (k : ℕ). take k (drop skip ts)) f
 
-  pub past-window : ascending (take m (drop skip ts)) ≡ true → ascending (drop skip ts) ≡ ascending (drop (skip + 63) ts)
-  past-window r = past 63 (drop skip ts) (ap ascending (sym window-is) ∙ r) ∙ ap ascending (drop-drop 63 skip ts)
+  pub past-window : ascending (take m (drop skip ts)) ≡ true → ascending (drop skip ts) ≡ ascending (drop (skip + 31) ts)
+  past-window r = past 31 (drop skip ts) (ap ascending (sym window-is) ∙ r) ∙ ap ascending (drop-drop 31 skip ts)
 
   pub window-falls : ascending (take m (drop skip ts)) ≡ false → ascending (drop skip ts) ≡ false
   window-falls r = go (ascending (drop skip ts)) refl
@@ -99,7 +99,7 @@ every-drop P (suc n) [] h = tt
 every-drop P (suc n) (p ∷ ps) h = every-drop P n ps (h .1)
 
 module _ (order long trig skip count : ℕ) (s : List ℕ) (t : Timed order long trig s) (few : skip + count ≤ length (partsIn s)) (w : List ℕ)
-    (e : w ≡ splice (replicate 512 0) 0 (rowsOf trig 8 skip count s)) where
+    (e : w ≡ splice (replicate 256 0) 0 (rowsOf trig 8 skip count s)) where
   window : List (List ℕ)
   window = take count (drop skip (byIndex (partsIn s)))
 
@@ -119,7 +119,7 @@ module _ (order long trig skip count : ℕ) (s : List ℕ) (t : Timed order long
   time-in : (j : ℕ) → j < count → timeBy order 0 8 w j ≡ timeAt order trig (getD (byIndex (partsIn s)) (skip + j) [])
   unfolding window
   time-in j l =
-      let rest : List ℕ = drop (0 + length (rowsOf trig 8 skip count s)) (replicate 512 0) in
+      let rest : List ℕ = drop (0 + length (rowsOf trig 8 skip count s)) (replicate 256 0) in
       let z : 0 + j * 8 ≡ j * 8 = omega arith in
       ap (λ (x : List ℕ). number order (take 8 (drop (0 + j * 8) x))) e ∙ ap (λ (n : ℕ). number order (take 8 (drop n (rowsOf trig 8 skip count s ++ rest)))) z
       ∙ ap (number order) (row-in 8 (map (rowOf trig 8) window) rest (rowOf trig 8 []) j rows-long (omega (arith, length-map window (rowOf trig 8), window-many))

@@ -1,4 +1,4 @@
-// Whether the trigger times of parts rise by index. The parts stand in the order in which they came, so the times of 64 indices are gathered at a time.
+// Whether the trigger times of parts rise by index. The parts stand in the order in which they came, so the times of 32 indices are gathered at a time.
 ghost use mathlib.Core.Path.{_≡_};
 ghost use Prim.Native.Nat.{_+_, _≤_, min};
 ghost use lib.ListN.{length, take, drop};
@@ -15,10 +15,10 @@ pub fn rise(parts: &[u8], order: u32, long: usize, trig: usize, count: usize) ->
     let mut skip: usize = 0;
     while skip + 1 < count {
         let left = count - skip;
-        if !rise_within(parts, order, long, trig, skip, at_most_64(left)) {
+        if !rise_within(parts, order, long, trig, skip, at_most_32(left)) {
             return false;
         }
-        skip += 63;
+        skip += 31;
     }
     true
 }
@@ -33,17 +33,17 @@ fn rise_within(
     count: usize,
 ) -> bool
     requires { ⌜ Timed order long trig (now parts) ⌝ }
-    requires { ⌜ (skip + count ≤ length (partsIn (now parts))) × (count ≤ 64) ⌝ }
+    requires { ⌜ (skip + count ≤ length (partsIn (now parts))) × (count ≤ 32) ⌝ }
     ensures { λ r. ⌜ r ≡ ascending (take count (drop skip (timesAt order trig (now (parts .entry))))) ⌝ }
 {
-    let mut times = [0u8; 512];
+    let mut times = [0u8; 256];
     parts::place_rows(parts, order, long, trig, 8, skip, count, &mut times, 0);
     block::ascend(&times, 0, 8, count, order)
 }
 
-// n, and 64 where it is more.
-fn at_most_64(n: usize) -> usize
-    ensures { λ r. ⌜ r ≡ min n 64 ⌝ }
+// n, and 32 where it is more.
+fn at_most_32(n: usize) -> usize
+    ensures { λ r. ⌜ r ≡ min n 32 ⌝ }
 {
-    if n < 64 { n } else { 64 }
+    if n < 32 { n } else { 32 }
 }

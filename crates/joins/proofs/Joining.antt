@@ -16,6 +16,7 @@ use Rattle.rules.specs.Rules.{all, refusal, opened}
 use Rattle.rules.specs.Cut.{changed, orElse}
 use Rattle.rules.proofs.Numbers.{length-laid}
 use Rattle.rules.proofs.Template.{total-template}
+use Rattle.rules.proofs.Frames.{length-framed}
 use Rattle.rules.proofs.Opened.{fits-opened}
 use Rattle.block.specs.declared.Opened.{Opened}
 use Rattle.block.specs.Opened.{openedAs}
@@ -35,32 +36,14 @@ use Rattle.arrivals.specs.Arrivals.{Judges}
 use Rattle.fronts.specs.Fronts.{changesFor, Fronting}
 use Rattle.joins.specs.declared.Joined.{Joined}
 use Rattle.joins.specs.Joins.{refusedAs, answer, joinedAs, outAs}
-use Rattle.joins.specs.Steps.{Gathered, totalBy, Ready, tableOf}
-use Rattle.joins.proofs.Tabled.{accepted, table-long}
+use Rattle.joins.specs.Steps.{Counted, totalBy, Ready, tableOf}
+use Rattle.joins.proofs.Tabled.{first-part, gathered-by, accepted, table-long}
 use Rattle.joins.proofs.Rising.{total-joined}
 use Rattle.joins.proofs.Whole.{whole}
 
 ris-times : (n x : ℕ) → (x ≡ 0) ⊎ (n ≡ 1) → n * x ≡ x
 ris-times n x (inl z) = ap (λ (y : ℕ). n * y) z ∙ omega (arith, z)
 ris-times n x (inr z) = ap (λ (m : ℕ). m * x) z ∙ omega arith
-
--- the first part, by where it ends
-take-own : (k : ℕ) (s : List ℕ) → take (length (take k s)) s ≡ take k s
-take-own k s = go (leb k (length s)) refl
-  where
-    go : (t : Bool) → leb k (length s) ≡ t → take (length (take k s)) s ≡ take k s
-    go true e = let m : length (take k s) ≡ k = omega (arith, length-take k s, leb-true k (length s) e) in ap (λ (n : ℕ). take n s) m
-    go false e =
-        let l : length s < k = leb-false k (length s) e in
-        take-all (length (take k s)) s (omega (arith, length-take k s)) ∙ sym (take-all k s (omega arith))
-
-pub first-part : (s : List ℕ) (end : ℕ) → 1 ≤ length (partsIn s) → end ≡ length (getD (partsIn s) 0 []) → take (end - 0) (drop 0 s) ≡ getD (partsIn s) 0 []
-first-part [] end h e = absurd (omega (arith, ap length parts-none))
-first-part (x ∷ t) end h e =
-    let s : List ℕ = x ∷ t in
-    let f : getD (partsIn s) 0 [] ≡ take (partEnd s) s = ap (λ (ps : List (List ℕ)). getD ps 0 []) (parts-next s (omega arith)) in
-    let m : end - 0 ≡ length (take (partEnd s) s) = omega (arith, ap length f) in
-    ap (λ (n : ℕ). take n s) m ∙ take-own (partEnd s) s ∙ sym f
 
 -- ---- writing
 
@@ -149,26 +132,39 @@ module _ (s : List ℕ) (b : Bytes s) (out : List ℕ) where
       pub some-parts : 1 ≤ length (partsIn s)
       some-parts = j .together z .some
 
-      pub gathered : (o : Opened) → o ≡ openedAs (take (r .end - 0) (drop 0 s)) → Gathered s o (r .count) (r .end)
-      gathered o e = record { together = j .together z; opens = e ∙ ap openedAs (first-part s (r .end) some-parts (j .ends z)); count = j .count z; ends = j .ends z }
+      pub counted : Counted s (r .count) (r .end)
+      counted = record { together = j .together z; count = j .count z; ends = j .ends z }
 
       none-bad : firstBad (partsIn s) ≡ 0
       none-bad = firstBad-none (partsIn s) .1 (j .together z .good)
 
       -- the joined block breaks a rule
-      pub block-refuses : (refusal (joinedBytes (partsIn s)) ≡ 0 → ⊥) → (w : Joined) → w ≡ refusedAs 16 → (w ≡ joinedAs s (length out)) × (out ≡ outAs s out)
-      block-refuses h = refuses 16 (sym (join-number s (length out) ∙ ap₂ {C = ℕ} (λ x t. orElse x (cond t (cond (leb (length (joinedBytes (partsIn s))) (length out)) 0 13) 16)) none-bad (go (all (joining (partsIn s))) refl))) (λ y. omega (arith, y))
+      pub block-number : (refusal (joinedBytes (partsIn s)) ≡ 0 → ⊥) → (room : ℕ) → 16 ≡ joinRefusal s room
+      block-number h room = sym (join-number s room ∙ ap₂ {C = ℕ} (λ x t. orElse x (cond t (cond (leb (length (joinedBytes (partsIn s))) room) 0 13) 16)) none-bad (go (all (joining (partsIn s))) refl))
         where
           go : (t : Bool) → all (joining (partsIn s)) ≡ t → all (joining (partsIn s)) ≡ false
           go true e = absurd (h (joined-tests (partsIn s) (j .together z .good) .0 e .block))
           go false e = e
 
-      module _ (o : Opened) (opens : o ≡ openedAs (take (r .end - 0) (drop 0 s))) (total : ℕ) (t : total ≡ totalBy o (r .count)) (block : refusal (joinedBytes (partsIn s)) ≡ 0) where
+      pub block-refuses : (refusal (joinedBytes (partsIn s)) ≡ 0 → ⊥) → (w : Joined) → w ≡ refusedAs 16 → (w ≡ joinedAs s (length out)) × (out ≡ outAs s out)
+      block-refuses h = refuses 16 (block-number h (length out)) (λ y. omega (arith, y))
+
+      -- it keeps them
+      module _ (block : refusal (joinedBytes (partsIn s)) ≡ 0) where
+        number-by : (room : ℕ) (u : Bool) → leb (length (joinedBytes (partsIn s))) room ≡ u → cond u 0 13 ≡ joinRefusal s room
+        number-by room u q =
+            sym (join-number s room ∙ λ i. orElse (none-bad i) (cond (joined-tests (partsIn s) (j .together z .good) .1 (record { together = j .together z; block = block }) i) (cond (q i) 0 13) 16))
+
+        pub no-room : 13 ≡ joinRefusal s 0
+        unfolding joinedBytes
+        no-room = number-by 0 false (lt-leb (length (joinedBytes (partsIn s))) 0 (omega (arith, length-framed (encode (joined (wavesOf (partsIn s)))))))
+
+      module _ (block : refusal (joinedBytes (partsIn s)) ≡ 0) (o : Opened) (opens : o ≡ openedAs (take (r .end - 0) (drop 0 s))) (total : ℕ) (t : total ≡ totalBy o (r .count)) where
         pub ready : Ready s o (r .count) (r .end) total
-        ready = record { gathered = gathered o opens; block = block; long = t }
+        ready = record { gathered = gathered-by s o (r .count) (r .end) counted opens; block = block; long = t }
 
         total-of : total ≡ joinedLength (length (partsIn s)) (opened (getD (partsIn s) 0 []) .head)
-        total-of = t ∙ total-joined s b o (r .count) (r .end) (gathered o opens)
+        total-of = t ∙ total-joined s b o (r .count) (r .end) (gathered-by s o (r .count) (r .end) counted opens)
 
         pub total-small : total ≤ 16777216
         total-small = omega (arith, total-of, block-good (partsIn s) (parts-bytes s b) (j .together z) .0 block .0)
@@ -180,17 +176,13 @@ module _ (s : List ℕ) (b : Bytes s) (out : List ℕ) where
             let l : length (header (length e) ++ e) ≡ length (header (length e)) + length e = length-append (header (length e)) e in
             l ∙ omega (arith, length-header (length e), length-block (partsIn s) (parts-bytes s b) (j .together z), total-of)
 
-        number-by : (u : Bool) → leb (length (joinedBytes (partsIn s))) (length out) ≡ u → cond u 0 13 ≡ joinRefusal s (length out)
-        number-by u q =
-            sym (join-number s (length out) ∙ λ i. orElse (none-bad i) (cond (joined-tests (partsIn s) (j .together z .good) .1 (record { together = j .together z; block = block }) i) (cond (q i) 0 13) 16))
-
         pub short-refuses : length out < total + 11 → (w : Joined) → w ≡ refusedAs 13 → (w ≡ joinedAs s (length out)) × (out ≡ outAs s out)
-        short-refuses h = refuses 13 (number-by false (lt-leb (length (joinedBytes (partsIn s))) (length out) (omega (arith, long-is)))) (λ y. omega (arith, y))
+        short-refuses h = refuses 13 (number-by block (length out) false (lt-leb (length (joinedBytes (partsIn s))) (length out) (omega (arith, long-is)))) (λ y. omega (arith, y))
 
         pub joins : total + 11 ≤ length out → (record { refusal = 0; count = r .count; length = total + 11 } ≡ joinedAs s (length out)) × (splice out 0 (joinedBytes (partsIn s)) ≡ outAs s out)
         unfolding joinedAs outAs
         joins h =
-            let e : 0 ≡ joinRefusal s (length out) = number-by true (le-leb (length (joinedBytes (partsIn s))) (length out) (omega (arith, long-is))) in (
+            let e : 0 ≡ joinRefusal s (length out) = number-by block (length out) true (le-leb (length (joinedBytes (partsIn s))) (length out) (omega (arith, long-is))) in (
               ap₂ {C = Joined} (λ x y. record { refusal = 0; count = x; length = y }) (j .count z) (sym long-is) ∙ ap (λ (k : ℕ). answer k (length (partsIn s)) (length (joinedBytes (partsIn s)))) e,
               ap (λ (k : ℕ). unlessRefused k (splice out 0 (joinedBytes (partsIn s))) out) e,
             )

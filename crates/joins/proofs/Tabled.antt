@@ -3,14 +3,17 @@ use mathlib.Core.Path.{_≡_, refl, sym, ap, ap₂, _∙_, subst}
 use Prim.Native.Nat.{ℕ, suc, _+_, _-_, _*_, _≤_, _<_}
 use native.Mathlib.Nat.{suc-mul}
 use native.Mathlib.Omega.{arith}
+use mathlib.Core.Bool.{Bool, true, false}
 use mathlib.Core.List.{List, [], _∷_, _++_, map, flatten}
 use lib.ListN.{length, getD, take, drop, length-append, length-take}
 use lib.Seq.{take-all}
+use lib.Dec.{leb}
+use borrow.Author.Tests.{leb-true, leb-false}
 use Rattle.rules.specs.Numbers.{Bytes, splice}
 use Rattle.rules.specs.Wave.{orderOf, lengthsOf, startsOf}
 use Rattle.rules.specs.Rules.{payloadStart, stated, refusal, opened}
 use Rattle.block.specs.declared.Opened.{Opened}
-use Rattle.block.specs.Opened.{layoutOf, calibrationOf, acceptedAs}
+use Rattle.block.specs.Opened.{layoutOf, calibrationOf, acceptedAs, openedAs}
 use Rattle.block.proofs.Answers.{accepted-as}
 use Rattle.copies.proofs.Laws.{then, splice-none, length-part}
 use Rattle.joining.specs.Join.{partEnd, partsIn, byIndex}
@@ -20,7 +23,7 @@ use Rattle.joining.proofs.Index.{length-byIndex, every-byIndex}
 use Rattle.joining.proofs.Placing.{stretch}
 use Rattle.parts.specs.Parts.{Placeable, rowOf, rowsOf}
 use Rattle.parts.proofs.Tables.{first-bytes, first-good, first-ends, placeable, table-rows, stretch-ends}
-use Rattle.joins.specs.Steps.{Gathered, tableOf}
+use Rattle.joins.specs.Steps.{Counted, Gathered, tableOf}
 
 flat-length : (f : List ℕ → List ℕ) (w : ℕ) (xs : List (List ℕ)) → Every (λ p. length (f p) ≡ w) xs → length (flatten (map f xs)) ≡ length xs * w
 unfolding flatten
@@ -47,6 +50,27 @@ module _ (s : List ℕ) where
       go : (s : List ℕ) → length (getD (partsIn s) 0 []) ≤ length s
       go [] = omega (arith, ap (λ (ps : List (List ℕ)). length (getD ps 0 [])) parts-none)
       go (x ∷ s) = let p : List ℕ = x ∷ s in omega (arith, ap (λ (ps : List (List ℕ)). length (getD ps 0 [])) (parts-next p (omega arith)), length-take (partEnd p) p)
+
+-- the first part, by where it ends
+take-own : (k : ℕ) (s : List ℕ) → take (length (take k s)) s ≡ take k s
+take-own k s = go (leb k (length s)) refl
+  where
+    go : (t : Bool) → leb k (length s) ≡ t → take (length (take k s)) s ≡ take k s
+    go true e = let m : length (take k s) ≡ k = omega (arith, length-take k s, leb-true k (length s) e) in ap (λ (n : ℕ). take n s) m
+    go false e =
+        let l : length s < k = leb-false k (length s) e in
+        take-all (length (take k s)) s (omega (arith, length-take k s)) ∙ sym (take-all k s (omega arith))
+
+pub first-part : (s : List ℕ) (end : ℕ) → 1 ≤ length (partsIn s) → end ≡ length (getD (partsIn s) 0 []) → take (end - 0) (drop 0 s) ≡ getD (partsIn s) 0 []
+first-part [] end h e = absurd (omega (arith, ap length parts-none))
+first-part (x ∷ t) end h e =
+    let s : List ℕ = x ∷ t in
+    let f : getD (partsIn s) 0 [] ≡ take (partEnd s) s = ap (λ (ps : List (List ℕ)). getD ps 0 []) (parts-next s (omega arith)) in
+    let m : end - 0 ≡ length (take (partEnd s) s) = omega (arith, ap length f) in
+    ap (λ (n : ℕ). take n s) m ∙ take-own (partEnd s) s ∙ sym f
+
+pub gathered-by : (s : List ℕ) (o : Opened) (n end : ℕ) → Counted s n end → o ≡ openedAs (take (end - 0) (drop 0 s)) → Gathered s o n end
+gathered-by s o n end k e = record { together = k .together; opens = e ∙ ap openedAs (first-part s end (k .together .some) (k .ends)); count = k .count; ends = k .ends }
 
 module _ (s : List ℕ) (b : Bytes s) (o : Opened) (n end : ℕ) (g : Gathered s o n end) where
   abbrev firstPart : List ℕ

@@ -10,7 +10,13 @@ use Rattle.joining.specs.Join.{partsIn, byIndex, joinedBytes}
 use Rattle.joining.proofs.Says.{Together}
 use Rattle.joining.proofs.Placing.{stretch}
 
--- the n parts of s belong together, and the first, which ends at `end`, was opened
+-- the n parts of s belong together, and the first ends at `end`
+pub record Counted (s : List ℕ) (n end : ℕ) : Type 0 where
+  pub together : Together (partsIn s)
+  pub count : n ≡ length (partsIn s)
+  pub ends : end ≡ length (getD (partsIn s) 0 [])
+
+-- and it was opened
 pub record Gathered (s : List ℕ) (o : Opened) (n end : ℕ) : Type 0 where
   pub together : Together (partsIn s)
   pub opens : o ≡ openedAs (getD (partsIn s) 0 [])

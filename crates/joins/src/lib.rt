@@ -8,9 +8,9 @@ ghost use mathlib.Core.Logic.{_↔_};
 ghost use Prim.Native.Nat.{_+_, _*_, _≤_};
 ghost use lib.ListN.{length};
 ghost use Rattle.rules.specs.Rules.{refusal};
-ghost use Rattle.joining.specs.Join.{partsIn, joinedBytes};
+ghost use Rattle.joining.specs.Join.{partsIn, joinedBytes, joinRefusal};
 ghost use Rattle.joins.specs.Joins.{refusedAs, joinedAs, outAs};
-ghost use Rattle.joins.specs.Steps.{Gathered, totalBy};
+ghost use Rattle.joins.specs.Steps.{Counted, totalBy};
 
 // What a join answers: 0, how many parts there were and the bytes written; or its refusal's number and zeros.
 pub struct Joined {
@@ -31,11 +31,11 @@ pub fn join(parts: &[u8], out: &mut [u8]) -> Joined
     }
     let end = judged.end;
     let count = judged.count;
-    let o = block::open(&parts[0..end]);
-    let total = total_of(o, count);
-    if !is_block(parts, o, count, end, total) {
+    if !is_block(parts, count, end) {
         return refused(16);
     }
+    let o = block::open(&parts[0..end]);
+    let total = total_of(o, count);
     if out.len() < total + 11 {
         return refused(13);
     }
@@ -45,6 +45,23 @@ pub fn join(parts: &[u8], out: &mut [u8]) -> Joined
         count: count as u32,
         length: (total + 11) as u32,
     }
+}
+
+// The number of a join that has nowhere to go: that of `join` without any room, never 0.
+pub fn join_nowhere(parts: &[u8]) -> u32
+    ensures { λ r. ⌜ r ≡ joinRefusal (now (parts .entry)) 0 ⌝ }
+{
+    let judged = arrivals::judge(parts);
+    let number = judged.refusal;
+    if number != 0 {
+        return number;
+    }
+    let end = judged.end;
+    let count = judged.count;
+    if !is_block(parts, count, end) {
+        return 16;
+    }
+    13
 }
 
 // The answer of a refused join.
@@ -80,12 +97,12 @@ fn sum_of(count: usize, text: u32, trig: u32, ris: u32, one: u32, two: u32) -> u
 }
 
 // Whether the joined block keeps the rules: its length, RISTIME in one part alone, and trigger times that do not run backwards. All else it has from its parts.
-fn is_block(parts: &[u8], o: Opened, count: usize, end: usize, total: usize) -> bool
-    requires { ⌜ Gathered (now parts) o count end ⌝ }
-    requires { ⌜ total ≡ totalBy o count ⌝ }
+fn is_block(parts: &[u8], count: usize, end: usize) -> bool
+    requires { ⌜ Counted (now parts) count end ⌝ }
     ensures { λ r. ⌜ (r ≡ true) ↔ (refusal (joinedBytes (partsIn (now (parts .entry)))) ≡ 0) ⌝ }
 {
-    if 16777216 < total {
+    let o = block::open(&parts[0..end]);
+    if 16777216 < total_of(o, count) {
         return false;
     }
     if count < 2 {

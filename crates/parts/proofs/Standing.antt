@@ -9,10 +9,13 @@ use lib.Seq.{take-all, drop-drop, take-append-le, drop-append-le, length-take-le
 use lib.Dec.{leb}
 use borrow.Author.Tests.{leb-true, leb-false}
 use Rattle.rules.specs.Numbers.{Bytes}
-use Rattle.rules.specs.Rules.{all, frame, payloadStart, stated, refusal}
+use Rattle.rules.specs.Rules.{all, frame, payloadStart, refusal}
 use Rattle.rules.proofs.Numbers.{below-take, below-drop}
-use Rattle.joining.specs.Join.{partEnd, partsIn, indexOf}
-use Rattle.joining.proofs.Parts.{parts-next, stated-take, frame-part, unframed-part, cut-part}
+use Rattle.block.specs.declared.Opened.{Opened}
+use Rattle.block.specs.Opened.{openedAs}
+use Rattle.block.proofs.Answers.{number-is, accepted-as}
+use Rattle.joining.specs.Join.{partEnd, partsIn}
+use Rattle.joining.proofs.Parts.{parts-next, unframed-part, cut-part}
 use Rattle.parts.specs.declared.Part.{Part}
 use Rattle.parts.specs.Parts.{this, refusedAs, answer, partAs}
 
@@ -61,30 +64,19 @@ module _ (s : List ℕ) (at : ℕ) where
     pub this-ends : e ≡ at + length (this s at)
     this-ends = omega (arith, length-take (partEnd (drop at s)) (drop at s), length-drop at s)
 
-    -- its header, as that of what is left
-    pub header-is : all (frame (drop at s)) ≡ true
-        → (all (frame (take (e - at) (drop at s))) ≡ true) × (payloadStart (drop at s) ≡ payloadStart (take (e - at) (drop at s))) × (stated (drop at s) ≡ stated (take (e - at) (drop at s)))
-    header-is f =
-        let r : List ℕ = drop at s in
-        let long : length (this s at) ≡ partEnd r = omega (arith, length-take (partEnd r) r, length-drop at s) in
-        (
-          ap (λ (p : List ℕ). all (frame p)) this-is ∙ ap all (frame-part r) ∙ f,
-          start-in ∙ ap payloadStart (sym this-is),
-          sym (stated-take (partEnd r) r (omega arith) (omega arith)) ∙ ap stated (sym this-is),
-        )
+    module _ (o : Opened) (h : o ≡ openedAs (take (e - at) (drop at s))) where
+      pub bad-here : (o .refusal ≡ 0 → ⊥) → refusedAs (o .refusal) ≡ partAs s at
+      bad-here z =
+          let n : o .refusal ≡ refusal (this s at) = number-is (take (e - at) (drop at s)) o h ∙ ap refusal this-is in
+          refused-is s at (o .refusal) (omega (arith, z)) (sym n)
 
-    module _ (n : ℕ) (h : n ≡ refusal (take (e - at) (drop at s))) where
-      pub number-here : refusal (this s at) ≡ n
-      number-here = sym (h ∙ ap refusal this-is)
-
-      pub bad-here : (n ≡ 0 → ⊥) → refusedAs n ≡ partAs s at
-      bad-here z = refused-is s at n (omega (arith, z)) number-here
-
-      pub good-here : n ≡ 0 → (start index : ℕ) → start ≡ at + payloadStart (drop at s) → index ≡ indexOf (this s at) → record { refusal = 0; start = start; end = e; index = index } ≡ partAs s at
+      pub good-here : (start : ℕ) → start ≡ at + payloadStart (drop at s) → o .refusal ≡ 0 → record { refusal = 0; start = start; end = e; index = o .index } ≡ partAs s at
       unfolding partAs
-      good-here z start index a k =
-          let q : start ≡ at + payloadStart (this s at) = a ∙ ap (λ (m : ℕ). at + m) start-in in
-          (λ i. record { refusal = 0; start = q i; end = this-ends i; index = k i }) ∙ sym (ap (λ (m : ℕ). answer m at (this s at)) (number-here ∙ z))
+      good-here start a z =
+          let n : refusal (this s at) ≡ 0 = sym (number-is (take (e - at) (drop at s)) o h ∙ ap refusal this-is) ∙ z in
+          let w = accepted-as (this s at) o (h ∙ ap openedAs this-is) n in
+          let b : start ≡ at + payloadStart (this s at) = a ∙ ap (λ (n : ℕ). at + n) start-in in
+          (λ i. record { refusal = 0; start = b i; end = this-ends i; index = w i .index }) ∙ sym (ap (λ (m : ℕ). answer m at (this s at)) n)
 
   -- ---- the bytes of a part, in the slice
 

@@ -32,16 +32,16 @@ pub fn part_at(parts: &[u8], at: usize) -> Part
         return refused(2);
     }
     let to = end as usize;
-    let number = block::number_under(&parts[at..to], header.start, header.length);
+    let o = block::open(&parts[at..to]);
+    let number = o.refusal;
     if number != 0 {
         return refused(number);
     }
-    let order = parts[start + 34] as u32;
     Part {
         refusal: 0,
         start,
         end: to,
-        index: numbers::u32_at(parts, start + 140, order),
+        index: o.index,
     }
 }
 

@@ -1,7 +1,6 @@
 // Parts joined by their index, for a host in C.
 ghost use mathlib.Core.Path.{_≡_};
 ghost use lib.ListN.{length};
-ghost use Rattle.joining.specs.Join.{joinRefusal};
 ghost use Rattle.tessarquin.specs.Calls.{joinNumber, joinLeft, joinAnswerLeft};
 
 // Joins blocks of one segment each, which stand back to back in any order: the block to out, how many there were and its length to the answer.
@@ -12,7 +11,7 @@ pub extern "C" fn tessarquin_join(parts: &[u8], out: &mut [u8], answer: &mut [u8
     ensures { λ _. ⌜ now (answer .exit) ≡ joinAnswerLeft (now (parts .entry)) (length (now (out .entry))) (now (answer .entry)) ⌝ }
 {
     if answer.len() < 16 {
-        return joined_nowhere(parts);
+        return joins::join_nowhere(parts);
     }
     let w = joins::join(parts, out);
     if w.refusal != 0 {
@@ -20,13 +19,4 @@ pub extern "C" fn tessarquin_join(parts: &[u8], out: &mut [u8], answer: &mut [u8
     }
     crate::put_pair(w.count as u64, w.length as u64, answer, 0);
     0
-}
-
-// The number of a join that has nowhere to go: never 0.
-fn joined_nowhere(parts: &[u8]) -> u32
-    ensures { λ r. ⌜ r ≡ joinRefusal (now (parts .entry)) 0 ⌝ }
-{
-    let mut nothing = [0u8; 0];
-    let w = joins::join(parts, &mut nothing);
-    w.refusal
 }

@@ -2,13 +2,13 @@
 use mathlib.Core.Path.{_≡_, sym, ap, _∙_}
 use Prim.Native.Nat.{_+_, _≤_}
 use native.Mathlib.Omega.{arith}
-use mathlib.Core.Bool.{true, false, false≢true}
+use mathlib.Core.Bool.{false≢true}
 use borrow.Author.Tests.{not-true, not-false}
 use Rattle.rules.specs.Numbers.{Bytes}
 use Rattle.rules.proofs.Numbers.{below-index}
 use borrow.Author.Needs.{needs}
 use Rattle.joins.proofs.Tabled.{first-within}
-use Rattle.joins.proofs.Joining.{judge-refuses, count-few, gathered, block-refuses, ready, total-small, short-refuses, joins}
+use Rattle.joins.proofs.Joining.{judge-refuses, count-few, counted, block-refuses, ready, total-small, short-refuses, joins}
 use Rattle.joins.proofs.join.Statement.{statement}
 use Rattle.joins.proofs.join.Tie as tie
 
@@ -28,6 +28,24 @@ returns c =
     let j = c .before .before .judge in
     judge-refuses (a .parts .now) (bytes y) (a .out .now) (j .result) (j .ensures) (c .before .if1 .taken) (c .refused .result) (c .refused .ensures)
 
+is-block-requires : tie.Need-is-block-requires
+is-block-requires c κs =
+    let y = c .before .before .before in
+    let a = y .before .args in
+    let j = c .before .judge in
+    counted (a .parts .now) (bytes y) (a .out .now) (j .result) (j .ensures) (c .if1 .left)
+
+refused-requires-2 : tie.Need-refused-requires-2
+refused-requires-2 c κs = search needs
+
+returns-2 : tie.Need-returns-2
+returns-2 c =
+    let y = c .before .before .before .before .before .before in
+    let a = y .before .args in
+    let j = c .before .before .before .before .judge in
+    let k = c .before .before .is-block in
+    block-refuses (a .parts .now) (bytes y) (a .out .now) (j .result) (j .ensures) (c .before .before .before .if1 .left) (λ e. false≢true (sym (not-true (k .result) (c .before .if2 .taken)) ∙ k .ensures .1 e)) (c .refused2 .result) (c .refused2 .ensures)
+
 sub-open : tie.Need-sub-open
 sub-open c = search needs
 
@@ -35,45 +53,27 @@ part-open-start : tie.Need-part-open-start
 part-open-start c = search needs
 
 part-open-end : tie.Need-part-open-end
-part-open-end c = omega (arith, c .before .judge .ensures .ends (c .if1 .left), first-within (c .before .before .before .before .args .parts .now))
+part-open-end c = omega (arith, c .before .before .before .judge .ensures .ends (c .before .before .if1 .left), first-within (c .before .before .before .before .before .before .args .parts .now))
 
 open-requires : tie.Need-open-requires
 open-requires c κs = search needs
 
 total-of-requires : tie.Need-total-of-requires
 total-of-requires c κs =
-    let y = c .before .before .before .before .before in
+    let y = c .before .before .before .before .before .before .before in
     let a = y .before .args in
-    let j = c .before .before .before .judge in
-    count-few (a .parts .now) (bytes y) (a .out .now) (j .result) (j .ensures) (c .before .before .if1 .left)
-
-is-block-requires : tie.Need-is-block-requires
-is-block-requires c κs =
-    let y = c .before .before .before .before .before .before in
-    let a = y .before .args in
-    let j = c .before .before .before .before .judge in
-    let o = c .before .«open» in
-    (gathered (a .parts .now) (bytes y) (a .out .now) (j .result) (j .ensures) (c .before .before .before .if1 .left) (o .result) (o .ensures), c .total-of .ensures)
-
-refused-requires-2 : tie.Need-refused-requires-2
-refused-requires-2 c κs = search needs
-
-returns-2 : tie.Need-returns-2
-returns-2 c =
-    let y = c .before .before .before .before .before .before .before .before .before in
-    let a = y .before .args in
-    let j = c .before .before .before .before .before .before .before .judge in
-    let k = c .before .before .is-block in
-    block-refuses (a .parts .now) (bytes y) (a .out .now) (j .result) (j .ensures) (c .before .before .before .before .before .before .if1 .left) (λ e. false≢true (sym (not-true (k .result) (c .before .if2 .taken)) ∙ k .ensures .1 e)) (c .refused2 .result) (c .refused2 .ensures)
+    let j = c .before .before .before .before .before .judge in
+    count-few (a .parts .now) (bytes y) (a .out .now) (j .result) (j .ensures) (c .before .before .before .before .if1 .left)
 
 add-if3 : tie.Need-add-if3
 add-if3 c =
     let y = c .before .before .before .before .before .before .before .before in
     let a = y .before .args in
     let j = c .before .before .before .before .before .before .judge in
-    let o = c .before .before .before .«open» in
-    let k = c .before .is-block in
-    omega (arith, total-small (a .parts .now) (bytes y) (a .out .now) (j .result) (j .ensures) (c .before .before .before .before .before .if1 .left) (o .result) (o .ensures) (c .before .before .total-of .result) (c .before .before .total-of .ensures) (k .ensures .0 (not-false (k .result) (c .if2 .left))))
+    let o = c .before .«open» in
+    let k = c .before .before .before .before .is-block in
+    let t = c .total-of in
+    omega (arith, total-small (a .parts .now) (bytes y) (a .out .now) (j .result) (j .ensures) (c .before .before .before .before .before .if1 .left) (k .ensures .0 (not-false (k .result) (c .before .before .before .if2 .left))) (o .result) (o .ensures) (t .result) (t .ensures))
 
 refused-requires-3 : tie.Need-refused-requires-3
 refused-requires-3 c κs = search needs
@@ -83,27 +83,30 @@ returns-3 c =
     let y = c .before .before .before .before .before .before .before .before .before .before in
     let a = y .before .args in
     let j = c .before .before .before .before .before .before .before .before .judge in
-    let o = c .before .before .before .before .before .«open» in
-    let k = c .before .before .before .is-block in
-    short-refuses (a .parts .now) (bytes y) (a .out .now) (j .result) (j .ensures) (c .before .before .before .before .before .before .before .if1 .left) (o .result) (o .ensures) (c .before .before .before .before .total-of .result) (c .before .before .before .before .total-of .ensures) (k .ensures .0 (not-false (k .result) (c .before .before .if2 .left))) (c .before .if3 .taken) (c .refused3 .result) (c .refused3 .ensures)
+    let o = c .before .before .before .«open» in
+    let k = c .before .before .before .before .before .before .is-block in
+    let t = c .before .before .total-of in
+    short-refuses (a .parts .now) (bytes y) (a .out .now) (j .result) (j .ensures) (c .before .before .before .before .before .before .before .if1 .left) (k .ensures .0 (not-false (k .result) (c .before .before .before .before .before .if2 .left))) (o .result) (o .ensures) (t .result) (t .ensures) (c .before .if3 .taken) (c .refused3 .result) (c .refused3 .ensures)
 
 cast-write-joined : tie.Need-cast-write-joined
 cast-write-joined c =
     let y = c .before .before .before .before .before .before .before .before .before in
     let a = y .before .args in
     let j = c .before .before .before .before .before .before .before .judge in
-    let o = c .before .before .before .before .«open» in
-    let k = c .before .before .is-block in
-    omega (arith, total-small (a .parts .now) (bytes y) (a .out .now) (j .result) (j .ensures) (c .before .before .before .before .before .before .if1 .left) (o .result) (o .ensures) (c .before .before .before .total-of .result) (c .before .before .before .total-of .ensures) (k .ensures .0 (not-false (k .result) (c .before .if2 .left))))
+    let o = c .before .before .«open» in
+    let k = c .before .before .before .before .before .is-block in
+    let t = c .before .total-of in
+    omega (arith, total-small (a .parts .now) (bytes y) (a .out .now) (j .result) (j .ensures) (c .before .before .before .before .before .before .if1 .left) (k .ensures .0 (not-false (k .result) (c .before .before .before .before .if2 .left))) (o .result) (o .ensures) (t .result) (t .ensures))
 
 write-joined-requires : tie.Need-write-joined-requires
 write-joined-requires c κs =
     let y = c .before .before .before .before .before .before .before .before .before .before in
     let a = y .before .args in
     let j = c .before .before .before .before .before .before .before .before .judge in
-    let o = c .before .before .before .before .before .«open» in
-    let k = c .before .before .before .is-block in
-    (ready (a .parts .now) (bytes y) (a .out .now) (j .result) (j .ensures) (c .before .before .before .before .before .before .before .if1 .left) (o .result) (o .ensures) (c .before .before .before .before .total-of .result) (c .before .before .before .before .total-of .ensures) (k .ensures .0 (not-false (k .result) (c .before .before .if2 .left))), omega (arith, c .before .if3 .left))
+    let o = c .before .before .before .«open» in
+    let k = c .before .before .before .before .before .before .is-block in
+    let t = c .before .before .total-of in
+    (ready (a .parts .now) (bytes y) (a .out .now) (j .result) (j .ensures) (c .before .before .before .before .before .before .before .if1 .left) (k .ensures .0 (not-false (k .result) (c .before .before .before .before .before .if2 .left))) (o .result) (o .ensures) (t .result) (t .ensures), omega (arith, c .before .if3 .left))
 
 cast-t17 : tie.Need-cast-t17
 cast-t17 c =
@@ -112,17 +115,18 @@ cast-t17 c =
     let j = c .before .before .before .before .before .before .before .before .before .before .before .judge in
     omega (arith, count-few (a .parts .now) (bytes y) (a .out .now) (j .result) (j .ensures) (c .before .before .before .before .before .before .before .before .before .before .if1 .left))
 
-add-t11 : tie.Need-add-t11
-add-t11 c = search needs
+add-t12 : tie.Need-add-t12
+add-t12 c = search needs
 
 cast-t20 : tie.Need-cast-t20
 cast-t20 c =
     let y = c .before .before .before .before .before .before .before .before .before .before .before .before .before in
     let a = y .before .args in
     let j = c .before .before .before .before .before .before .before .before .before .before .before .judge in
-    let o = c .before .before .before .before .before .before .before .before .«open» in
-    let k = c .before .before .before .before .before .before .is-block in
-    omega (arith, total-small (a .parts .now) (bytes y) (a .out .now) (j .result) (j .ensures) (c .before .before .before .before .before .before .before .before .before .before .if1 .left) (o .result) (o .ensures) (c .before .before .before .before .before .before .before .total-of .result) (c .before .before .before .before .before .before .before .total-of .ensures) (k .ensures .0 (not-false (k .result) (c .before .before .before .before .before .if2 .left))))
+    let o = c .before .before .before .before .before .before .«open» in
+    let k = c .before .before .before .before .before .before .before .before .before .is-block in
+    let t = c .before .before .before .before .before .total-of in
+    omega (arith, total-small (a .parts .now) (bytes y) (a .out .now) (j .result) (j .ensures) (c .before .before .before .before .before .before .before .before .before .before .if1 .left) (k .ensures .0 (not-false (k .result) (c .before .before .before .before .before .before .before .before .if2 .left))) (o .result) (o .ensures) (t .result) (t .ensures))
 
 same-length : tie.Need-same-length
 same-length c = search needs
@@ -132,9 +136,10 @@ returns-4 c =
     let y = c .before .before .before .before .before .before .before .before .before .before .before .before .before in
     let a = y .before .args in
     let j = c .before .before .before .before .before .before .before .before .before .before .before .judge in
-    let o = c .before .before .before .before .before .before .before .before .«open» in
-    let k = c .before .before .before .before .before .before .is-block in
-    let done = joins (a .parts .now) (bytes y) (a .out .now) (j .result) (j .ensures) (c .before .before .before .before .before .before .before .before .before .before .if1 .left) (o .result) (o .ensures) (c .before .before .before .before .before .before .before .total-of .result) (c .before .before .before .before .before .before .before .total-of .ensures) (k .ensures .0 (not-false (k .result) (c .before .before .before .before .before .if2 .left))) (omega (arith, c .before .before .before .before .if3 .left)) in
+    let o = c .before .before .before .before .before .before .«open» in
+    let k = c .before .before .before .before .before .before .before .before .before .is-block in
+    let t = c .before .before .before .before .before .total-of in
+    let done = joins (a .parts .now) (bytes y) (a .out .now) (j .result) (j .ensures) (c .before .before .before .before .before .before .before .before .before .before .if1 .left) (k .ensures .0 (not-false (k .result) (c .before .before .before .before .before .before .before .before .if2 .left))) (o .result) (o .ensures) (t .result) (t .ensures) (omega (arith, c .before .before .before .before .if3 .left)) in
     (done .0, c .before .before .write-joined .ensures ∙ done .1)
 
 pub join-spec : {M : Type 1} → statement M
@@ -144,21 +149,21 @@ join-spec =
     judge-requires
     refused-requires
     returns
+    is-block-requires
+    refused-requires-2
+    returns-2
     sub-open
     part-open-start
     part-open-end
     open-requires
     total-of-requires
-    is-block-requires
-    refused-requires-2
-    returns-2
     add-if3
     refused-requires-3
     returns-3
     cast-write-joined
     write-joined-requires
     cast-t17
-    add-t11
+    add-t12
     cast-t20
     same-length
     returns-4)

@@ -1,28 +1,20 @@
 -- The header judged, then the block that it says.
-use mathlib.Core.Path.{_≡_, refl, sym, ap, _∙_}
+use mathlib.Core.Path.{_≡_, sym, ap, _∙_}
 use Prim.Native.Nat.{ℕ, _+_, _-_, _≤_, _<_}
 use native.Mathlib.Omega.{arith}
 use mathlib.Core.Bool.{Bool, true, false}
 use mathlib.Core.List.{List}
 use lib.ListN.{length, take, drop}
 use borrow.Author.Needs.{needs}
-use Rattle.rules.specs.Numbers.{Bytes}
-use Rattle.rules.specs.Template.{template, widthAt}
-use Rattle.rules.specs.Rules.{all, frame, payloadStart, stated, refusal}
-use Rattle.rules.proofs.Numbers.{below-index}
+use Rattle.rules.specs.Rules.{all, frame, payloadStart, stated}
 use Rattle.frames.specs.declared.Header.{Header}
 use Rattle.frames.specs.Headers.{framedAs, headerOf}
 use Rattle.frames.proofs.Headers.{framed-is, framed-says, framed-small}
 use Rattle.block.proofs.Ladder.{passes, fails}
 use Rattle.joining.specs.Join.{partEnd}
-use Rattle.parts.specs.Parts.{this}
-use Rattle.parts.proofs.Standing.{this-bytes, start-in, rest-is, unframed-here, cut-here, header-is, number-here, bad-here, good-here}
-use Rattle.parts.proofs.Fields.{descriptor-there, long-read}
+use Rattle.parts.proofs.Standing.{rest-is, unframed-here, cut-here, bad-here, good-here}
 use Rattle.parts.proofs.part_at.Statement.{statement}
 use Rattle.parts.proofs.part_at.Tie as tie
-
-bytes : (c : tie.After-shared-slice-known) → Bytes (c .before .args .parts .now)
-bytes c = below-index 256 (c .before .args .parts .now) (λ i h. c .shared-slice-known .given i .fits)
 
 -- the header of what is left
 read : (c : tie.After-header-of) → let a = c .before .before .before .args in c .header-of .result ≡ headerOf (drop (a .at) (a .parts .now))
@@ -95,84 +87,37 @@ returns-2 c =
     let a = h .before .before .before .args in
     c .refused2 .ensures ∙ cut-here (a .parts .now) (a .at) (framed f) (omega (arith, ends f, c .before .if2 .taken))
 
-sub-number-under : tie.Need-sub-number-under
-sub-number-under c = search needs
+sub-open : tie.Need-sub-open
+sub-open c = search needs
 
-part-number-under-start : tie.Need-part-number-under-start
-part-number-under-start c = search needs
+part-open-start : tie.Need-part-open-start
+part-open-start c = search needs
 
-part-number-under-end : tie.Need-part-number-under-end
-part-number-under-end c = search needs
+part-open-end : tie.Need-part-open-end
+part-open-end c = search needs
 
-number-under-requires : tie.Need-number-under-requires
-number-under-requires c κs =
-    let f = c .before .before .before .before in
-    let a = f .before .before .before .before .before .args in
-    let h = f .before .before .header-of .result in
-    let r = header-is (a .parts .now) (a .at) (a .at + h .start + h .length) (ends f) (omega (arith, c .before .if2 .left)) (framed f) in
-    (r .0, ap (λ (x : Header). x .start) (header f) ∙ r .1, ap (λ (x : Header). x .length) (header f) ∙ r .2)
+open-requires : tie.Need-open-requires
+open-requires c κs = search needs
 
 refused-requires-3 : tie.Need-refused-requires-3
 refused-requires-3 c κs = search needs
 
 returns-3 : tie.Need-returns-3
 returns-3 c =
-    let n = c .before .before in
-    let f = n .before .before .before .before .before in
+    let o = c .before .before in
+    let f = o .before .before .before .before .before in
     let a = f .before .before .before .before .before .args in
     let h = f .before .before .header-of .result in
     c .refused3 .ensures
-    ∙ bad-here (a .parts .now) (a .at) (a .at + h .start + h .length) (ends f) (omega (arith, n .before .before .if2 .left)) (n .number-under .result) (n .number-under .ensures) (c .before .if3 .taken)
-
--- a good part, and its descriptor
-good : (c : tie.Else3) → let a = c .before .before .before .before .before .before .before .before .before .before .before .args in refusal (this (a .parts .now) (a .at)) ≡ 0
-good c =
-    let n = c .before in
-    let f = n .before .before .before .before .before in
-    let a = f .before .before .before .before .before .args in
-    let h = f .before .before .header-of .result in
-    number-here (a .parts .now) (a .at) (a .at + h .start + h .length) (ends f) (omega (arith, n .before .before .if2 .left)) (n .number-under .result) (n .number-under .ensures) ∙ c .if3 .left
-
-start-is : (c : tie.Else3) → let f = c .before .before .before .before .before .before in let a = f .before .before .before .before .before .args in a .at + f .before .before .header-of .result .start ≡ a .at + payloadStart (this (a .parts .now) (a .at))
-start-is c =
-    let f = c .before .before .before .before .before .before in
-    let a = f .before .before .before .before .before .args in
-    ap (λ (x : Header). a .at + x .start) (header f) ∙ ap (λ (m : ℕ). a .at + m) (start-in (a .parts .now) (a .at))
-
-there : (c : tie.Else3) → let f = c .before .before .before .before .before .before in let a = f .before .before .before .before .before .args in a .at + f .before .before .header-of .result .start + 346 ≤ length (a .parts .now)
-there c =
-    let f = c .before .before .before .before .before .before in
-    let y = f .before .before .before .before in
-    let a = y .before .args in
-    descriptor-there (a .parts .now) (a .at) (a .at + f .before .before .header-of .result .start) (y .before .pre) (this-bytes (a .parts .now) (a .at) (bytes y)) (good c) (start-is c)
-
-add-order : tie.Need-add-order
-add-order c = omega (arith, there c)
-
-shared-slice-read-order : tie.Need-shared-slice-read-order
-shared-slice-read-order c = omega (arith, there (c .before))
-
-cast-order : tie.Need-cast-order
-cast-order c = let f = c .before .before .before .before .before .before .before in let a = f .before .before .before .before .before .args in omega (arith, c .shared-slice-known2 .given (a .at + f .before .before .header-of .result .start + 34))
-
-add-u32-at : tie.Need-add-u32-at
-add-u32-at c = omega (arith, there (c .before))
-
-u32-at-requires : tie.Need-u32-at-requires
-u32-at-requires c κs = omega (arith, there (c .before))
+    ∙ bad-here (a .parts .now) (a .at) (a .at + h .start + h .length) (ends f) (omega (arith, o .before .before .if2 .left)) (o .«open» .result) (o .«open» .ensures) (c .before .if3 .taken)
 
 returns-4 : tie.Need-returns-4
-unfolding template widthAt
 returns-4 c =
-    let g = c .before .before in
-    let n = g .before in
-    let f = n .before .before .before .before .before in
-    let y = f .before .before .before .before in
-    let a = y .before .args in
+    let o = c .before in
+    let f = o .before .before .before .before .before in
+    let a = f .before .before .before .before .before .args in
     let h = f .before .before .header-of .result in
-    good-here (a .parts .now) (a .at) (a .at + h .start + h .length) (ends f) (omega (arith, n .before .before .if2 .left)) (n .number-under .result) (n .number-under .ensures) (g .if3 .left)
-    (a .at + h .start) (c .u32-at .result) (ap (λ (x : Header). a .at + x .start) (header f))
-    (c .u32-at .ensures ∙ long-read (a .parts .now) (a .at) (a .at + h .start) (y .before .pre) (this-bytes (a .parts .now) (a .at) (bytes y)) (good g) (start-is g) 140 refl (omega arith))
+    good-here (a .parts .now) (a .at) (a .at + h .start + h .length) (ends f) (omega (arith, o .before .before .if2 .left)) (o .«open» .result) (o .«open» .ensures) (a .at + h .start) (ap (λ (x : Header). a .at + x .start) (header f)) (c .if3 .left)
 
 pub part-at-spec : {M : Type 1} → statement M
 part-at-spec =
@@ -188,15 +133,10 @@ part-at-spec =
     add-end
     refused-requires-2
     returns-2
-    sub-number-under
-    part-number-under-start
-    part-number-under-end
-    number-under-requires
+    sub-open
+    part-open-start
+    part-open-end
+    open-requires
     refused-requires-3
     returns-3
-    add-order
-    shared-slice-read-order
-    cast-order
-    add-u32-at
-    u32-at-requires
     returns-4)

@@ -14,7 +14,7 @@ use Rattle.arrivals.proofs.times.rise.Statement.{statement}
 use Rattle.arrivals.proofs.times.rise.Tie as tie
 
 abbrev Inv-loop : tie.InvT-loop
-Inv-loop parts order long trig count skip₀ skip = (skip ≤ count + 62) × (ascending (timesAt order trig parts) ≡ ascending (drop skip (timesAt order trig parts)))
+Inv-loop parts order long trig count skip₀ skip = (skip ≤ count + 30) × (ascending (timesAt order trig parts) ≡ ascending (drop skip (timesAt order trig parts)))
 
 abbrev μ-loop : tie.MeasureT-loop
 μ-loop parts order long trig count skip₀ skip = count - skip
@@ -34,14 +34,14 @@ add-loop c = omega (arith, c .loop .inv .0, c .before .before .pre .1 .1)
 sub-left : tie.Need-sub-left Inv-loop μ-loop
 sub-left c = search needs
 
-at-most-64-requires : tie.Need-at-most-64-requires Inv-loop μ-loop
-at-most-64-requires c κs = search needs
+at-most-32-requires : tie.Need-at-most-32-requires Inv-loop μ-loop
+at-most-32-requires c κs = search needs
 
 rise-within-requires : tie.Need-rise-within-requires Inv-loop μ-loop
 rise-within-requires c κs =
     let start = c .before .before .before .before in
     let l = c .before .before .loop in
-    (start .pre .0, (omega (arith, c .at-most-64 .ensures, c .before .loop-test .taken, start .pre .1 .0), omega (arith, c .at-most-64 .ensures)))
+    (start .pre .0, (omega (arith, c .at-most-32 .ensures, c .before .loop-test .taken, start .pre .1 .0), omega (arith, c .at-most-32 .ensures)))
 
 returns : tie.Need-returns Inv-loop μ-loop
 returns c =
@@ -51,7 +51,7 @@ returns c =
     let start = m .before .before .before in
     let a = start .before .args in
     sym (l .inv .1
-    ∙ window-falls (timesAt (a .order) (a .trig) (a .parts .now)) (a .count) (l .skip) (m .at-most-64 .result) (many start) (m .at-most-64 .ensures)
+    ∙ window-falls (timesAt (a .order) (a .trig) (a .parts .now)) (a .count) (l .skip) (m .at-most-32 .result) (many start) (m .at-most-32 .ensures)
     (sym (r .rise-within .ensures) ∙ not-true (r .rise-within .result) (c .if1 .taken)))
 
 add-skip : tie.Need-add-skip Inv-loop μ-loop
@@ -69,7 +69,7 @@ loop-again c =
     let a = start .before .args in (
       omega (arith, m .before .loop-test .taken),
       l .inv .1
-          ∙ past-window (timesAt (a .order) (a .trig) (a .parts .now)) (a .count) (l .skip) (m .at-most-64 .result) (many start) (m .at-most-64 .ensures)
+          ∙ past-window (timesAt (a .order) (a .trig) (a .parts .now)) (a .count) (l .skip) (m .at-most-32 .result) (many start) (m .at-most-32 .ensures)
           (sym (r .rise-within .ensures) ∙ not-false (r .rise-within .result) (c .if1 .left)),
     )
 
@@ -89,7 +89,7 @@ rise-spec =
     loop-holds
     add-loop
     sub-left
-    at-most-64-requires
+    at-most-32-requires
     rise-within-requires
     returns
     add-skip

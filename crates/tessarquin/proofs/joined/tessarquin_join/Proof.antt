@@ -5,13 +5,13 @@ use borrow.Author.Needs.{needs}
 use Rattle.tessarquin.proofs.joined.tessarquin_join.Statement.{statement}
 use Rattle.tessarquin.proofs.joined.tessarquin_join.Tie as tie
 
-joined-nowhere-requires : tie.Need-joined-nowhere-requires
-joined-nowhere-requires c κs = search needs
+join-nowhere-requires : tie.Need-join-nowhere-requires
+join-nowhere-requires c κs = search needs
 
 returns : tie.Need-returns
 returns c =
     let a = c .before .before .before .before .before .args in
-    let r = nowhere (a .parts .now) (a .out .now) (a .answer .now) (c .before .if1 .taken) (c .joined-nowhere .result) (c .joined-nowhere .ensures) in
+    let r = nowhere (a .parts .now) (a .out .now) (a .answer .now) (c .before .if1 .taken) (c .join-nowhere .result) (c .join-nowhere .ensures) in
     (r .0, (r .1, r .2))
 
 join-requires : tie.Need-join-requires
@@ -55,7 +55,7 @@ pub tessarquin-join-spec : {M : Type 1} → statement M
 tessarquin-join-spec =
     tie.close
     (tie.spec
-    joined-nowhere-requires
+    join-nowhere-requires
     returns
     join-requires
     same-length
