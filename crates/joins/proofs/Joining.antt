@@ -36,8 +36,8 @@ use Rattle.arrivals.specs.Arrivals.{Judges}
 use Rattle.fronts.specs.Fronts.{changesFor, Fronting}
 use Rattle.joins.specs.declared.Joined.{Joined}
 use Rattle.joins.specs.Joins.{refusedAs, answer, joinedAs, outAs}
-use Rattle.joins.specs.Steps.{Counted, totalBy, Ready, tableOf}
-use Rattle.joins.proofs.Tabled.{first-part, gathered-by, accepted, table-long}
+use Rattle.joins.specs.Steps.{Counted, totalBy, Ready, tableOf, tablesTo}
+use Rattle.joins.proofs.Tabled.{first-part, gathered-by, accepted, table-long, five-tables}
 use Rattle.joins.proofs.Rising.{total-joined}
 use Rattle.joins.proofs.Whole.{whole}
 
@@ -63,12 +63,14 @@ module _ (s : List ℕ) (b : Bytes s) (o : Opened) (n end total : ℕ) (g : Read
   pub few : n ≤ 1000
   few = omega (arith, g .gathered .count, g .gathered .together .most)
 
-  pub sum : (let l = o .layout .lengths in 357 + getD l 1 0 + n * getD l 3 0 + n * getD l 4 0 + n * getD l 6 0 + n * getD l 7 0) ≡ 11 + total
+  -- the front and the tables are the whole
+  pub sum : 357 + getD (o .layout .lengths) 1 0 + length (tablesTo 5 s) ≡ 11 + total
   sum =
       let r : n * getD (o .layout .lengths) 4 0 ≡ getD (o .layout .lengths) 4 0 =
       ap₂ {C = ℕ} (λ m (x : Opened). m * getD (x .layout .lengths) 4 0) (g .gathered .count) (accepted s b o n end (g .gathered)) ∙ ris-times (length (partsIn s)) (head 52) (fine .1)
       ∙ sym (ap (λ (x : Opened). getD (x .layout .lengths) 4 0) (accepted s b o n end (g .gathered))) in
-      omega (arith, g .long)
+      let long : (i : ℕ) → i < 10 → length (tableOf i s) ≡ n * getD (o .layout .lengths) i 0 = table-long s b o n end (g .gathered) in
+      omega (arith, g .long, ap length (five-tables s b o n end (g .gathered)), length-append (tableOf 3 s ++ tableOf 4 s ++ tableOf 6 s) (tableOf 7 s), length-append (tableOf 3 s ++ tableOf 4 s) (tableOf 6 s), length-append (tableOf 3 s) (tableOf 4 s), long 3 (omega arith), long 4 (omega arith), long 6 (omega arith), long 7 (omega arith))
 
   first-is : take (end - 0) (drop 0 s) ≡ firstPart
   first-is = first-part s end (g .gathered .together .some) (g .gathered .ends)
@@ -83,10 +85,10 @@ module _ (s : List ℕ) (b : Bytes s) (o : Opened) (n end total : ℕ) (g : Read
   pub front-written : (out : List ℕ) → 11 + total ≤ length out
       → (let p = take (end - 0) (drop 0 s) in
       splice (splice out 0 (header total ++ laid (opened p .head 34) template (changed (changesBy (opened p .head 34) (changesFor n (opened p .head))) (opened p .head)) ++ opened p .text)) (357 + getD (o .layout .lengths) 1 0)
-      (tableOf 3 s ++ tableOf 4 s ++ tableOf 6 s ++ tableOf 7 s))
+      (tablesTo 5 s))
       ≡ splice out 0 (joinedBytes (partsIn s))
   front-written out h =
-      let tables : List ℕ = tableOf 3 s ++ tableOf 4 s ++ tableOf 6 s ++ tableOf 7 s in
+      let tables : List ℕ = tablesTo 5 s in
       let hd : ℕ → List ℕ = λ m. laid (head 34) template (changed (changesBy (head 34) (changesFor m head)) head) in
       let front : ℕ → List ℕ = λ m. header total ++ hd m ++ opened firstPart .text in
       let at : ℕ = 357 + getD (o .layout .lengths) 1 0 in
@@ -101,6 +103,7 @@ module _ (s : List ℕ) (b : Bytes s) (o : Opened) (n end total : ℕ) (g : Read
       ∙ ap (λ (k : ℕ). splice (splice out 0 (front n)) k tables) z
       ∙ then out 0 at (front n) tables long (omega (arith, sum))
       ∙ ap (λ (m : ℕ). splice out 0 (front m ++ tables)) (g .gathered .count)
+      ∙ ap (λ (x : List ℕ). splice out 0 (front (length (partsIn s)) ++ x)) (five-tables s b o n end (g .gathered))
       ∙ ap (splice out 0) (whole (partsIn s) (parts-bytes s b) (g .gathered .together) total total-is ris (fine .1))
 
 -- ---- the answer

@@ -4,7 +4,7 @@ use Prim.Native.Nat.{ℕ, suc, _+_, _-_, _*_, _≤_, _<_}
 use native.Mathlib.Nat.{suc-mul}
 use native.Mathlib.Omega.{arith}
 use mathlib.Core.Bool.{Bool, true, false}
-use mathlib.Core.List.{List, [], _∷_, _++_, map, flatten}
+use mathlib.Core.List.{List, [], _∷_, _++_, map, flatten, append-nil}
 use lib.ListN.{length, getD, take, drop, length-append, length-take}
 use lib.Seq.{take-all}
 use lib.Dec.{leb}
@@ -12,10 +12,12 @@ use borrow.Author.Tests.{leb-true, leb-false}
 use Rattle.rules.specs.Numbers.{Bytes, splice}
 use Rattle.rules.specs.Wave.{orderOf, lengthsOf, startsOf}
 use Rattle.rules.specs.Rules.{payloadStart, stated, refusal, opened}
+use Rattle.rules.proofs.Opened.{good-opened}
 use Rattle.block.specs.declared.Opened.{Opened}
 use Rattle.block.specs.Opened.{layoutOf, calibrationOf, acceptedAs, openedAs}
 use Rattle.block.proofs.Answers.{accepted-as}
-use Rattle.copies.proofs.Laws.{then, splice-none, length-part}
+use Rattle.copies.specs.Copies.{gather}
+use Rattle.copies.proofs.Laws.{splice-none, splice-splice, gather-add, length-part}
 use Rattle.joining.specs.Join.{partEnd, partsIn, byIndex}
 use Rattle.joining.proofs.Lists.{Every, every-map, no-elements}
 use Rattle.joining.proofs.Parts.{parts-none, parts-next}
@@ -23,24 +25,16 @@ use Rattle.joining.proofs.Index.{length-byIndex, every-byIndex}
 use Rattle.joining.proofs.Placing.{stretch}
 use Rattle.parts.specs.Parts.{Placeable, rowOf, rowsOf}
 use Rattle.parts.proofs.Tables.{first-bytes, first-good, first-ends, placeable, table-rows, stretch-ends}
-use Rattle.joins.specs.Steps.{Counted, Gathered, tableOf}
+use Rattle.joins.specs.Steps.{Counted, Gathered, tableOf, tablesTo}
 
 flat-length : (f : List ℕ → List ℕ) (w : ℕ) (xs : List (List ℕ)) → Every (λ p. length (f p) ≡ w) xs → length (flatten (map f xs)) ≡ length xs * w
 unfolding flatten
 flat-length f w [] h = omega arith
 flat-length f w (x ∷ xs) h = omega (arith, length-append (f x) (flatten (map f xs)), h .0, flat-length f w xs (h .1), suc-mul (length xs) w)
 
--- four lists written one behind the other
-pub four : (l : List ℕ) (at m n k : ℕ) (ws xs ys zs : List ℕ) → length ws ≡ m → length xs ≡ n → length ys ≡ k → at + m + n + k ≤ length l
-    → splice (splice (splice (splice l at ws) (at + m) xs) (at + m + n) ys) (at + m + n + k) zs ≡ splice l at (ws ++ xs ++ ys ++ zs)
-four l at m n k ws xs ys zs em en ek h =
-    let a : at + m + n ≡ at + (m + n) = omega arith in
-    let c : at + m + n + k ≡ at + (m + n + k) = omega arith in
-    let p : length (ws ++ xs) ≡ m + n = omega (arith, length-append ws xs) in
-    let q : length (ws ++ xs ++ ys) ≡ m + n + k = omega (arith, length-append (ws ++ xs) ys) in
-    (λ i. splice (splice (then l at m ws xs em (omega arith) i) (a i) ys) (c i) zs)
-    ∙ ap (λ (r : List ℕ). splice r (at + (m + n + k)) zs) (then l at (m + n) (ws ++ xs) ys p (omega arith))
-    ∙ then l at (m + n + k) (ws ++ xs ++ ys) zs q (omega arith)
+-- what is gathered only grows
+gather-grows : (f : ℕ → List ℕ) (k m : ℕ) → length (gather f k) ≤ length (gather f (k + m))
+gather-grows f k m = omega (arith, ap length (gather-add f k m), length-append (gather f k) (gather (λ j. f (k + j)) m))
 
 -- the first part stands at the slice's start
 module _ (s : List ℕ) where
@@ -126,3 +120,29 @@ module _ (s : List ℕ) (b : Bytes s) (o : Opened) (n end : ℕ) (g : Gathered s
         let e : getD (o .layout .lengths) i 0 ≡ 0 = omega arith in
         let m : length (tableOf i s) ≡ 0 = table-long ∙ ap (λ (x : ℕ). n * x) e ∙ omega arith in
         splice-none out at ∙ ap (splice out at) (sym (no-elements (tableOf i s) m))
+
+  -- ---- the five lengths from the third on
+
+  -- the RES one among them is 0
+  none-reserved : tableOf 5 s ≡ []
+  none-reserved =
+      let z : getD (o .layout .lengths) 5 0 ≡ 0 = ap (λ (x : Opened). getD (x .layout .lengths) 5 0) accepted ∙ good-opened firstPart (first-bytes s b (g .together)) (first-good s b (g .together)) .tile .none .1 .0 in
+      no-elements (tableOf 5 s) (table-long 5 (omega arith) ∙ ap (λ (x : ℕ). n * x) z ∙ omega arith)
+
+  pub five-tables : tablesTo 5 s ≡ tableOf 3 s ++ tableOf 4 s ++ tableOf 6 s ++ tableOf 7 s
+  five-tables = ap (λ (x : List ℕ). tableOf 3 s ++ tableOf 4 s ++ x ++ tableOf 6 s ++ tableOf 7 s) none-reserved ∙ ap (λ (x : List ℕ). x ++ tableOf 6 s ++ tableOf 7 s) (append-nil (tableOf 3 s ++ tableOf 4 s))
+
+  pub table-room : (k : ℕ) → k < 5 → length (tablesTo k s) + n * getD (o .layout .lengths) (3 + k) 0 ≤ length (tablesTo 5 s)
+  table-room k l =
+      let f : ℕ → List ℕ = λ j. tableOf (3 + j) s in
+      let e : suc k + (4 - k) ≡ 5 = omega arith in
+      omega (arith, gather-grows f (suc k) (4 - k), ap (λ (m : ℕ). length (gather f m)) e, length-append (tablesTo k s) (tableOf (3 + k) s), table-long (3 + k) (omega arith))
+
+  -- one table more
+  pub next-table : (k : ℕ) → k < 5 → (length (tablesTo (k + 1) s) ≡ length (tablesTo k s) + n * getD (o .layout .lengths) (3 + k) 0)
+      × ((out : List ℕ) (at : ℕ) → at + length (tablesTo k s) ≤ length out → splice (splice out at (tablesTo k s)) (at + length (tablesTo k s)) (tableOf (3 + k) s) ≡ splice out at (tablesTo (k + 1) s))
+  next-table k l =
+      let f : ℕ → List ℕ = λ j. tableOf (3 + j) s in
+      let e : suc k ≡ k + 1 = omega arith in
+      let q : tablesTo k s ++ tableOf (3 + k) s ≡ tablesTo (k + 1) s = ap (gather f) e in
+      (sym (ap length q) ∙ length-append (tablesTo k s) (tableOf (3 + k) s) ∙ ap (λ (m : ℕ). length (tablesTo k s) + m) (table-long (3 + k) (omega arith)), λ out at h. splice-splice out at (tablesTo k s) (tableOf (3 + k) s) h ∙ ap (splice out at) q)

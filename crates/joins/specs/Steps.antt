@@ -6,6 +6,7 @@ use lib.ListN.{length, getD}
 use Rattle.rules.specs.Rules.{refusal, opened}
 use Rattle.block.specs.declared.Opened.{Opened}
 use Rattle.block.specs.Opened.{openedAs}
+use Rattle.copies.specs.Copies.{gather}
 use Rattle.joining.specs.Join.{partsIn, byIndex, joinedBytes}
 use Rattle.joining.proofs.Says.{Together}
 use Rattle.joining.proofs.Placing.{stretch}
@@ -38,3 +39,7 @@ pub record Ready (s : List ℕ) (o : Opened) (n end total : ℕ) : Type 0 where
 -- the bytes of all parts by index, of one of the ten lengths
 abbrev pub tableOf : ℕ → List ℕ → List ℕ
 tableOf i s = flatten (map (stretch i) (byIndex (partsIn s)))
+
+-- those of k lengths from the third on, one after another
+abbrev pub tablesTo : ℕ → List ℕ → List ℕ
+tablesTo k s = gather (λ j. tableOf (3 + j) s) k

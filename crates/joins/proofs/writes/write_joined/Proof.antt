@@ -2,12 +2,12 @@
 use mathlib.Core.Path.{ap, _∙_}
 use Prim.Native.Nat.{ℕ, _+_}
 use native.Mathlib.Omega.{arith}
-use mathlib.Core.List.{List, _++_}
+use mathlib.Core.List.{List}
 use lib.ListN.{getD}
 use Rattle.rules.specs.Numbers.{Bytes, splice}
 use Rattle.rules.proofs.Numbers.{below-index}
 use borrow.Author.Needs.{needs}
-use Rattle.joins.specs.Steps.{tableOf}
+use Rattle.joins.specs.Steps.{tablesTo}
 use Rattle.joins.proofs.Tabled.{first-within}
 use Rattle.joins.proofs.Joining.{few, sum, fronting, front-written}
 use Rattle.joins.proofs.writes.write_joined.Statement.{statement}
@@ -63,9 +63,8 @@ returns c =
     let y = c .before .before .before .before .before .before .before .before .before .before .before .before in
     let x = y .before in
     let a = x .args in
-    let table : ℕ → List ℕ = λ i. tableOf i (a .parts .now) in
     c .before .before .write-tables .ensures
-    ∙ ap (λ (l : List ℕ). splice l (357 + getD (a .o .layout .lengths) 1 0) (table 3 ++ table 4 ++ table 6 ++ table 7)) (c .before .before .before .before .before .before .write-front .ensures)
+    ∙ ap (λ (l : List ℕ). splice l (357 + getD (a .o .layout .lengths) 1 0) (tablesTo 5 (a .parts .now))) (c .before .before .before .before .before .before .write-front .ensures)
     ∙ front-written (a .parts .now) (bytes y) (a .o) (a .count) (a .end) (a .total) (x .pre .0) (a .out .now) (x .pre .1)
 
 pub write-joined-spec : {M : Type 1} → statement M

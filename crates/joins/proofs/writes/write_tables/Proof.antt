@@ -1,106 +1,114 @@
 -- Each table stands behind the one before.
-use mathlib.Core.Path.{_≡_, ap, _∙_}
-use Prim.Native.Nat.{ℕ, _+_, _*_, _<_}
+use mathlib.Core.Path.{_≡_, refl, sym, ap, ap₂, _∙_}
+use Prim.Native.Nat.{ℕ, _+_, _-_, _*_, _≤_, _<_}
 use native.Mathlib.Omega.{arith}
 use mathlib.Core.List.{List}
 use lib.ListN.{length, getD}
 use Rattle.rules.specs.Numbers.{Bytes, splice}
 use Rattle.rules.proofs.Numbers.{below-index}
+use Rattle.copies.proofs.Laws.{splice-none}
 use borrow.Author.Needs.{needs}
-use Rattle.joins.specs.Steps.{tableOf}
-use Rattle.joins.proofs.Tabled.{four, table-long}
+use Rattle.joins.specs.Steps.{tableOf, tablesTo}
+use Rattle.joins.proofs.Tabled.{table-room, next-table}
 use Rattle.joins.proofs.writes.write_tables.Statement.{statement}
 use Rattle.joins.proofs.writes.write_tables.Tie as tie
 
-bytes : (c : tie.After-shared-slice-known) → Bytes (c .before .args .parts .now)
+abbrev Inv-loop : tie.InvT-loop
+Inv-loop parts o count end out₀ at lengths to₀ k₀ out to k = (k ≤ 5) × (to ≡ at + length (tablesTo k parts)) × (out ≡ splice out₀ at (tablesTo k parts)) × (length out ≡ length out₀)
+
+abbrev μ-loop : tie.MeasureT-loop
+μ-loop parts o count end out₀ at lengths to₀ k₀ out to k = 5 - k
+
+bytes : (c : tie.After-shared-slice-known Inv-loop μ-loop) → Bytes (c .before .args .parts .now)
 bytes c = below-index 256 (c .before .args .parts .now) (λ i h. c .shared-slice-known .given i .fits)
 
-long : (c : tie.After-shared-slice-known) (i : ℕ) → i < 10 → length (tableOf i (c .before .args .parts .now)) ≡ c .before .args .count * getD (c .before .args .o .layout .lengths) i 0
-long c i l = let x = c .before in let a = x .args in table-long (a .parts .now) (bytes c) (a .o) (a .count) (a .end) (x .pre .0) i l
-
-array-read-ris : tie.Need-array-read-ris
-array-read-ris c = search needs
-
-cast-ris : tie.Need-cast-ris
-cast-ris c = search needs
-
-mul-ris : tie.Need-mul-ris
-mul-ris c = search needs
-
-add-ris : tie.Need-add-ris
-add-ris c = search needs
-
-array-read-one : tie.Need-array-read-one
-array-read-one c = search needs
-
-cast-one : tie.Need-cast-one
-cast-one c = search needs
-
-mul-one : tie.Need-mul-one
-mul-one c = search needs
-
-add-one : tie.Need-add-one
-add-one c = search needs
-
-array-read-two : tie.Need-array-read-two
-array-read-two c = search needs
-
-cast-two : tie.Need-cast-two
-cast-two c = search needs
-
-mul-two : tie.Need-mul-two
-mul-two c = search needs
-
-add-two : tie.Need-add-two
-add-two c = search needs
-
-write-table-requires : tie.Need-write-table-requires
-write-table-requires c κs = let x = c .before .before .before .before .before in (x .pre .0, (omega arith, omega (arith, x .pre .1)))
-
-write-table-requires-2 : tie.Need-write-table-requires-2
-write-table-requires-2 c κs = let x = c .before .before .before .before .before .before .before .before .before in (x .pre .0, (omega arith, omega (arith, x .pre .1, c .before .before .before .write-table .kept)))
-
-write-table-requires-3 : tie.Need-write-table-requires-3
-write-table-requires-3 c κs = let x = c .before .before .before .before .before .before .before .before .before .before .before .before .before in (x .pre .0, (omega arith, omega (arith, x .pre .1, c .before .before .before .write-table2 .kept, c .before .before .before .before .before .before .before .write-table .kept)))
-
-write-table-requires-4 : tie.Need-write-table-requires-4
-write-table-requires-4 c κs = let x = c .before .before .before .before .before .before .before .before .before .before .before .before .before .before .before .before .before in (x .pre .0, (omega arith, omega (arith, x .pre .1, c .before .before .before .write-table3 .kept, c .before .before .before .before .before .before .before .write-table2 .kept, c .before .before .before .before .before .before .before .before .before .before .before .write-table .kept)))
-
-same-length : tie.Need-same-length
-same-length c = search needs
-
-returns : tie.Need-returns
-returns c =
-    let y = c .before .before .before .before .before .before .before .before .before .before .before .before .before .before .before .before .before .before .before in
+-- there is room for the table of the turn
+room : (c : tie.In-loop Inv-loop μ-loop) → let a = c .before .before .before .before .before .before .args in let l = c .before .loop in l .to + a .count * getD (a .o .layout .lengths) (3 + l .k) 0 ≤ length (a .out .now)
+room c =
+    let y = c .before .before .before .before .before in
     let x = y .before in
     let a = x .args in
-    let table : ℕ → List ℕ = λ i. tableOf i (a .parts .now) in
-    let size : ℕ → ℕ = λ i. a .count * getD (a .o .layout .lengths) i 0 in
-    c .before .before .write-table4 .ensures
-    ∙ ap (λ (l : List ℕ). splice l (a .at + size 3 + size 4 + size 6) (table 7)) (c .before .before .before .before .before .before .write-table3 .ensures
-    ∙ ap (λ (l : List ℕ). splice l (a .at + size 3 + size 4) (table 6)) (c .before .before .before .before .before .before .before .before .before .before .write-table2 .ensures
-    ∙ ap (λ (l : List ℕ). splice l (a .at + size 3) (table 4)) (c .before .before .before .before .before .before .before .before .before .before .before .before .before .before .write-table .ensures)))
-    ∙ four (a .out .now) (a .at) (size 3) (size 4) (size 6) (table 3) (table 4) (table 6) (table 7) (long y 3 (omega arith)) (long y 4 (omega arith)) (long y 6 (omega arith)) (omega (arith, x .pre .1))
+    let l = c .before .loop in
+    omega (arith, l .inv .1, table-room (a .parts .now) (bytes y) (a .o) (a .count) (a .end) (x .pre .0) (l .k) (c .loop-test .taken), x .pre .1)
+
+loop-holds : tie.Need-loop-holds Inv-loop μ-loop
+loop-holds c = let a = c .before .before .before .before .args in (omega arith, omega arith, splice-none (a .out .now) (a .at), refl)
+
+add-size : tie.Need-add-size Inv-loop μ-loop
+add-size c = search needs
+
+mul-size : tie.Need-mul-size Inv-loop μ-loop
+mul-size c = search needs
+
+array-read-size : tie.Need-array-read-size Inv-loop μ-loop
+array-read-size c = search needs
+
+cast-size : tie.Need-cast-size Inv-loop μ-loop
+cast-size c = search needs
+
+add-write-table : tie.Need-add-write-table Inv-loop μ-loop
+add-write-table c = search needs
+
+write-table-requires : tie.Need-write-table-requires Inv-loop μ-loop
+write-table-requires c κs =
+    let i = c .before in
+    let x = i .before .before .before .before .before .before in
+    (x .pre .0, (omega (arith, i .loop-test .taken), omega (arith, room i, i .before .loop .inv .3)))
+
+mul-to : tie.Need-mul-to Inv-loop μ-loop
+mul-to c = omega (arith, room (c .before .before .before .before))
+
+add-to : tie.Need-add-to Inv-loop μ-loop
+add-to c = omega (arith, room (c .before .before .before .before))
+
+add-k : tie.Need-add-k Inv-loop μ-loop
+add-k c = search needs
+
+loop-less : tie.Need-loop-less Inv-loop μ-loop
+loop-less c = search needs
+
+loop-again : tie.Need-loop-again Inv-loop μ-loop
+loop-again c =
+    let w = c .before .before .write-table in
+    let i = c .before .before .before .before in
+    let y = i .before .before .before .before .before in
+    let x = y .before in
+    let a = x .args in
+    let l = i .before .loop in
+    let n = next-table (a .parts .now) (bytes y) (a .o) (a .count) (a .end) (x .pre .0) (l .k) (i .loop-test .taken) in (
+      omega (arith, i .loop-test .taken),
+      omega (arith, l .inv .1, n .0),
+      w .ensures ∙ ap₂ {C = List ℕ} (λ u m. splice u m (tableOf (3 + l .k) (a .parts .now))) (l .inv .2) (l .inv .1) ∙ n .1 (a .out .now) (a .at) (omega (arith, room i, l .inv .1)),
+      w .kept .1 .1 .1 .1 .1 .0 ∙ l .inv .3,
+    )
+
+same-length : tie.Need-same-length Inv-loop μ-loop
+same-length c = c .before .loop .inv .3
+
+returns : tie.Need-returns Inv-loop μ-loop
+returns c =
+    let l = c .before .loop in
+    let a = c .before .before .before .before .before .before .args in
+    let five : l .k ≡ 5 = omega (arith, l .inv .0, c .loop-test .left) in
+    l .inv .2 ∙ ap (λ (m : ℕ). splice (a .out .now) (a .at) (tablesTo m (a .parts .now))) five
 
 pub write-tables-spec : {M : Type 1} → statement M
 write-tables-spec =
     tie.close
     (tie.spec
-    array-read-ris
-    cast-ris
-    mul-ris
-    add-ris
-    array-read-one
-    cast-one
-    mul-one
-    add-one
-    array-read-two
-    cast-two
-    mul-two
-    add-two
+    Inv-loop
+    μ-loop
+    loop-holds
+    add-size
+    mul-size
+    array-read-size
+    cast-size
+    add-write-table
     write-table-requires
-    write-table-requires-2
-    write-table-requires-3
-    write-table-requires-4
+    mul-to
+    add-to
+    add-k
+    loop-less
+    loop-again
     same-length
     returns)
