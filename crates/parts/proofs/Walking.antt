@@ -9,9 +9,9 @@ use lib.ListN.{length, getD, take, drop, set, replicate, length-drop, drop-of-le
 use lib.Seq.{drop-drop, length-take-le, map-set-same}
 use lib.Dec.{ltb}
 use borrow.Author.Tests.{ltb-true, ltb-false, lt-ltb, le-ltb}
-use Rattle.rules.specs.Numbers.{number, rows, splice}
+use Rattle.rules.specs.Numbers.{Bytes, number, bytes, rows, splice}
 use Rattle.rules.specs.Rules.{payloadStart}
-use Rattle.rules.proofs.Numbers.{flatten-pieces, lengths-pieces, total-replicate}
+use Rattle.rules.proofs.Numbers.{flatten-pieces, lengths-pieces, total-replicate, bytes-number, below-take, below-drop}
 use Rattle.rules.proofs.Rows.{Rows, total-rows, row-length}
 use Rattle.numbers.proofs.Bools.{and-false}
 use Rattle.copies.specs.Copies.{part}
@@ -85,6 +85,13 @@ set-past {A = A} (y ∷ l) (suc i) x h = ap {B = List A} (λ r. y ∷ r) (set-pa
 -- a row's end is no further than the last's
 pub row-room : (k count size : ℕ) → k < count → k * size + size ≤ count * size
 row-room k count size l = let m : suc k * size ≤ count * size = mul-le-mul-right size l in omega (arith, suc-mul k size)
+
+-- eight bytes, as a number and back
+pub eight-bytes : (s : List ℕ) → Bytes s → (from size : ℕ) → size ≡ 8 → from + size ≤ length s → (n : ℕ) → n ≡ number 1 (part s from 8) → bytes 1 8 n ≡ part s from size
+eight-bytes s b from size e h n q =
+    let l : length (part s from 8) ≡ 8 = length-part s from 8 (omega arith) in
+    ap (bytes 1 8) q ∙ ap (λ (w : ℕ). bytes 1 w (number 1 (part s from 8))) (sym l)
+    ∙ bytes-number 1 (part s from 8) (below-take 256 8 (drop from s) (below-drop 256 from s b)) ∙ ap (part s from) (sym e)
 
 -- an index that has no place, being too low or too high, and one that has
 module _ (at size skip count k : ℕ) (row out : List ℕ) where

@@ -112,9 +112,11 @@ belongs-requires c κs =
     let l = p .before .before .loop in
     let t = p .before .before .before .before .before .before .before .before in
     let start = t .before in
-    let a = start .before .args in
-    (this-comparable (a .parts .now) (bytes start) (start .before .pre .0) (first-good start) (a .first .start) (t .text-length .result) (lead-is start) (t .text-length .ensures)
-    (l .seen) (l .together) (l .count) (l .here) (l .inv .0) (p .before .loop-test .taken) (part-sound e) (p .part-at .result .start) (ap (λ (x : Part). x .start) (part-answer e)), l .inv .2)
+    let a = start .before .args in (
+      this-comparable (a .parts .now) (bytes start) (start .before .pre .0) (first-good start) (a .first .start) (t .text-length .result) (lead-is start) (t .text-length .ensures)
+          (l .seen) (l .together) (l .count) (l .here) (l .inv .0) (p .before .loop-test .taken) (part-sound e) (p .part-at .result .start) (ap (λ (x : Part). x .start) (part-answer e)),
+      l .inv .2,
+    )
 
 slice-aggregate-note-2 : tie.Need-slice-aggregate-note-2 Inv-loop μ-loop
 slice-aggregate-note-2 c = search needs

@@ -1,19 +1,19 @@
 -- A row has a place where its index is one of those asked for.
-use mathlib.Core.Path.{_≡_, refl, sym, ap, ap₂, _∙_}
-use Prim.Native.Nat.{ℕ, suc, _+_, _-_, _*_, _≤_, _<_}
+use mathlib.Core.Path.{_≡_, sym, ap, _∙_}
+use Prim.Native.Nat.{ℕ, _+_, _-_, _*_, _≤_}
 use native.Mathlib.Omega.{arith}
-use mathlib.Core.Bool.{Bool, cond, _&&_}
 use mathlib.Core.List.{List}
 use lib.ListN.{length}
-use lib.Dec.{ltb}
-use borrow.Author.Tests.{le-ltb, lt-ltb}
 use borrow.Author.Needs.{needs}
-use Rattle.rules.specs.Numbers.{splice}
+use Rattle.rules.specs.Numbers.{Bytes, splice}
+use Rattle.rules.proofs.Numbers.{below-index}
 use Rattle.copies.specs.Copies.{part}
-use Rattle.parts.specs.Parts.{placed}
-use Rattle.parts.proofs.Walking.{row-room, before-all, behind-all, one-of}
+use Rattle.parts.proofs.Walking.{row-room, before-all, behind-all, one-of, eight-bytes}
 use Rattle.parts.proofs.place_row.Statement.{statement}
 use Rattle.parts.proofs.place_row.Tie as tie
+
+bytes : (c : tie.After-shared-slice-known) → Bytes (c .before .args .parts .now)
+bytes c = below-index 256 (c .before .args .parts .now) (λ i h. c .shared-slice-known .given i .fits)
 
 -- its place ends in out
 room : (c : tie.Else2) → let a = c .before .before .before .before .args in a .at + (a .index - a .skip - 1) * a .size + a .size ≤ length (a .out .now)
@@ -36,24 +36,44 @@ returns-2 c =
     let a = c .before .before .before .before .args in
     sym (behind-all (a .at) (a .size) (a .skip) (a .count) (a .index) (part (a .parts .now) (a .from) (a .size)) (a .out .now) (omega arith))
 
-mul-copy-bytes : tie.Need-mul-copy-bytes
-mul-copy-bytes c = omega (arith, room (c .before))
+mul-to : tie.Need-mul-to
+mul-to c = omega (arith, room c)
 
-add-copy-bytes : tie.Need-add-copy-bytes
-add-copy-bytes c = omega (arith, room (c .before))
+add-to : tie.Need-add-to
+add-to c = omega (arith, room c)
 
-copy-bytes-requires : tie.Need-copy-bytes-requires
-copy-bytes-requires c κs = (c .before .before .before .before .before .pre .0, room (c .before))
+u64-at-requires : tie.Need-u64-at-requires
+u64-at-requires c κs = let x = c .before .before .before .before .before in omega (arith, x .pre .0, c .if3 .taken)
+
+put-u64-requires : tie.Need-put-u64-requires
+put-u64-requires c κs = let e = c .before .before .before in omega (arith, room e, c .before .before .if3 .taken)
 
 same-length : tie.Need-same-length
 same-length c = search needs
 
 returns-3 : tie.Need-returns-3
 returns-3 c =
-    let start = c .before .before .before .before .before .before .before .before in
-    let a = start .args in
+    let t = c .before .before .before .before .before in
+    let e = t .before in
+    let y = e .before .before .before in
+    let a = y .before .args in
+    let r = c .before .before .before .before .u64-at in
+    c .before .before .put-u64 .ensures
+    ∙ ap (splice (a .out .now) (a .at + (a .index - a .skip - 1) * a .size)) (eight-bytes (a .parts .now) (bytes y) (a .from) (a .size) (t .if3 .taken) (y .before .pre .0) (r .result) (r .ensures))
+    ∙ one-of (a .at) (a .size) (a .skip) (a .count) (a .index) (part (a .parts .now) (a .from) (a .size)) (a .out .now) (omega (arith, e .before .if1 .left)) (omega (arith, e .if2 .left))
+
+copy-bytes-requires : tie.Need-copy-bytes-requires
+copy-bytes-requires c κs = let e = c .before .before in (e .before .before .before .before .pre .0, room e)
+
+same-length-2 : tie.Need-same-length-2
+same-length-2 c = search needs
+
+returns-4 : tie.Need-returns-4
+returns-4 c =
+    let e = c .before .before .before .before .before in
+    let a = e .before .before .before .before .args in
     c .before .before .copy-bytes .ensures
-    ∙ one-of (a .at) (a .size) (a .skip) (a .count) (a .index) (part (a .parts .now) (a .from) (a .size)) (a .out .now) (omega arith) (omega arith)
+    ∙ one-of (a .at) (a .size) (a .skip) (a .count) (a .index) (part (a .parts .now) (a .from) (a .size)) (a .out .now) (omega (arith, e .before .if1 .left)) (omega (arith, e .if2 .left))
 
 pub place-row-spec : {M : Type 1} → statement M
 place-row-spec =
@@ -63,8 +83,12 @@ place-row-spec =
     sub-k
     sub-k-2
     returns-2
-    mul-copy-bytes
-    add-copy-bytes
-    copy-bytes-requires
+    mul-to
+    add-to
+    u64-at-requires
+    put-u64-requires
     same-length
-    returns-3)
+    returns-3
+    copy-bytes-requires
+    same-length-2
+    returns-4)
