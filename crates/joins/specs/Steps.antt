@@ -1,12 +1,13 @@
 -- What is known on the way through a join. Definitions only.
 use mathlib.Core.Path.{_≡_}
 use mathlib.Core.List.{List, [], map, flatten}
-use Prim.Native.Nat.{ℕ, _+_, _*_}
+use Prim.Native.Nat.{ℕ, _+_, _-_, _*_}
 use lib.ListN.{length, getD}
 use Rattle.rules.specs.Rules.{refusal, opened}
 use Rattle.block.specs.declared.Opened.{Opened}
 use Rattle.block.specs.Opened.{openedAs}
 use Rattle.copies.specs.Copies.{gather}
+use Rattle.joins.specs.declared.Shape.{Shape}
 use Rattle.joining.specs.Join.{partsIn, byIndex, joinedBytes}
 use Rattle.joining.proofs.Says.{Together}
 use Rattle.joining.proofs.Placing.{stretch}
@@ -29,6 +30,17 @@ abbrev pub totalBy : Opened → ℕ → ℕ
 totalBy o n =
     let l = o .layout .lengths in
     346 + (getD l 1 0 + (n * getD l 3 0 + (getD l 4 0 + (n * getD l 6 0 + n * getD l 7 0))))
+
+-- what the rules of a joined block ask of the first part, which ends at `end`
+abbrev pub shapeBy : Opened → ℕ → ℕ → Shape
+shapeBy o n end = record {
+  order = o .order;
+  long = end - o .start;
+  total = totalBy o n;
+  ris = getD (o .layout .lengths) 4 0;
+  trig = getD (o .layout .lengths) 3 0;
+  from = getD (o .layout .starts) 3 0;
+}
 
 -- and their joined block is good
 pub record Ready (s : List ℕ) (o : Opened) (n end total : ℕ) : Type 0 where

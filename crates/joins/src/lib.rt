@@ -6,17 +6,29 @@ ghost use mathlib.Core.Path.{_≡_};
 ghost use mathlib.Core.Bool.{true};
 ghost use mathlib.Core.Logic.{_↔_};
 ghost use Prim.Native.Nat.{_+_, _*_, _≤_};
-ghost use lib.ListN.{length};
+ghost use mathlib.Core.List.{[]};
+ghost use lib.ListN.{length, getD};
 ghost use Rattle.rules.specs.Rules.{refusal};
+ghost use Rattle.block.specs.Opened.{openedAs};
 ghost use Rattle.joining.specs.Join.{partsIn, joinedBytes, joinRefusal};
 ghost use Rattle.joins.specs.Joins.{refusedAs, joinedAs, outAs};
-ghost use Rattle.joins.specs.Steps.{Counted, totalBy};
+ghost use Rattle.joins.specs.Steps.{Counted, totalBy, shapeBy};
 
 // What a join answers: 0, how many parts there were and the bytes written; or its refusal's number and zeros.
 pub struct Joined {
     pub refusal: u32,
     pub count: u32,
     pub length: u32,
+}
+
+// Of the joined block its length; of a part its byte order, its payload's length, and how long RISTIME and TRIGTIME are and where the latter stands.
+struct Shape {
+    order: u32,
+    long: usize,
+    total: usize,
+    ris: u32,
+    trig: u32,
+    from: usize,
 }
 
 // Writes the join of the parts to out's start. Refused, it writes nothing.
@@ -101,21 +113,42 @@ fn is_block(parts: &[u8], count: usize, end: usize) -> bool
     requires { ⌜ Counted (now parts) count end ⌝ }
     ensures { λ r. ⌜ (r ≡ true) ↔ (refusal (joinedBytes (partsIn (now (parts .entry)))) ≡ 0) ⌝ }
 {
-    let o = block::open(&parts[0..end]);
-    if 16777216 < total_of(o, count) {
+    let first = shape_of(parts, count, end);
+    if 16777216 < first.total {
         return false;
     }
     if count < 2 {
         return true;
     }
-    let l = o.layout;
-    let lengths = l.lengths;
-    if 0 < lengths[4] {
+    if 0 < first.ris {
         return false;
     }
-    if lengths[3] < 1 {
+    if first.trig < 1 {
         return true;
     }
+    arrivals::rise(parts, first.order, first.long, first.from, count)
+}
+
+// What these rules ask of the first part. It is opened in here, so that its answer leaves the stack before the times come.
+fn shape_of(parts: &[u8], count: usize, end: usize) -> Shape
+    requires { ⌜ Counted (now parts) count end ⌝ }
+    ensures { λ r. ⌜ r ≡ shapeBy (openedAs (getD (partsIn (now (parts .entry))) 0 [])) count end ⌝ }
+{
+    let o = block::open(&parts[0..end]);
+    let l = o.layout;
+    let lengths = l.lengths;
     let starts = l.starts;
-    arrivals::rise(parts, o.order, end - o.start, starts[3] as usize, count)
+    let long = end - o.start;
+    let total = total_of(o, count);
+    let ris = lengths[4];
+    let trig = lengths[3];
+    let from = starts[3] as usize;
+    Shape {
+        order: o.order,
+        long,
+        total,
+        ris,
+        trig,
+        from,
+    }
 }

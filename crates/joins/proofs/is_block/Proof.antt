@@ -1,13 +1,19 @@
 -- Its length, one part alone, RISTIME, no times, and times.
-use mathlib.Core.Path.{_≡_}
-use Prim.Native.Nat.{_+_, _-_, _≤_}
+use mathlib.Core.Path.{_≡_, refl, sym, ap, _∙_, subst}
+use mathlib.Core.List.{[]}
+use Prim.Native.Nat.{_≤_, _<_}
 use native.Mathlib.Omega.{arith}
-use lib.ListN.{length, getD}
-use Rattle.rules.specs.Numbers.{Bytes}
-use Rattle.rules.proofs.Numbers.{below-index}
+use lib.ListN.{getD}
 use borrow.Author.Needs.{needs}
-use Rattle.joins.specs.Steps.{Gathered}
-use Rattle.joins.proofs.Tabled.{gathered-by, start-within, row-ends, first-within}
+use Rattle.rules.specs.Numbers.{Bytes}
+use Rattle.rules.specs.Rules.{ascending}
+use Rattle.rules.proofs.Numbers.{below-index}
+use Rattle.block.specs.declared.Opened.{Opened}
+use Rattle.block.specs.Opened.{openedAs}
+use Rattle.joining.specs.Join.{partsIn}
+use Rattle.arrivals.specs.Arrivals.{Timed, timesAt}
+use Rattle.joins.specs.declared.Shape.{Shape}
+use Rattle.joins.specs.Steps.{Gathered, totalBy}
 use Rattle.joins.proofs.Rising.{timed, trig-wide, too-long, one-part, many-ris, no-times, by-times}
 use Rattle.joins.proofs.is_block.Statement.{statement}
 use Rattle.joins.proofs.is_block.Tie as tie
@@ -15,114 +21,72 @@ use Rattle.joins.proofs.is_block.Tie as tie
 bytes : (c : tie.After-shared-slice-known) → Bytes (c .before .args .parts .now)
 bytes c = below-index 256 (c .before .args .parts .now) (λ i h. c .shared-slice-known .given i .fits)
 
--- the first was opened
-gathered : (c : tie.After-open) → let a = c .before .before .before .args in Gathered (a .parts .now) (c .«open» .result) (a .count) (a .end)
-gathered c = let x = c .before .before .before in let a = x .args in gathered-by (a .parts .now) (c .«open» .result) (a .count) (a .end) (x .pre) (c .«open» .ensures)
+-- the first part's answer, which the shape was made of
+abbrev first : (c : tie.After-shared-slice-known) → Opened
+first c = openedAs (getD (partsIn (c .before .args .parts .now)) 0 [])
 
-sub-open : tie.Need-sub-open
-sub-open c = search needs
+gathered : (c : tie.After-shared-slice-known) → let a = c .before .args in Gathered (a .parts .now) (first c) (a .count) (a .end)
+gathered c = let x = c .before in record { together = x .pre .together; opens = refl; count = x .pre .count; ends = x .pre .ends }
 
-part-open-start : tie.Need-part-open-start
-part-open-start c = search needs
+total : (c : tie.After-shape-of) → c .shape-of .result .total ≡ totalBy (first (c .before)) (c .before .before .args .count)
+total c = ap (λ (x : Shape). x .total) (c .shape-of .ensures)
 
-part-open-end : tie.Need-part-open-end
-part-open-end c = let x = c .before in omega (arith, x .pre .ends, first-within (x .args .parts .now))
-
-open-requires : tie.Need-open-requires
-open-requires c κs = search needs
-
-total-of-requires : tie.Need-total-of-requires
-total-of-requires c κs = let x = c .before .before .before in omega (arith, x .pre .count, x .pre .together .most)
+shape-of-requires : tie.Need-shape-of-requires
+shape-of-requires c κs = c .before .pre
 
 returns : tie.Need-returns
 returns c =
-    let t = c .before in
-    let p = t .before in
-    let y = p .before .before in
+    let t = c .before .before in
+    let y = t .before in
     let a = y .before .args in
-    too-long (a .parts .now) (bytes y) (p .«open» .result) (a .count) (a .end) (gathered p) (t .total-of .result) (t .total-of .ensures) (c .if1 .taken)
+    too-long (a .parts .now) (bytes y) (first y) (a .count) (a .end) (gathered y) (t .shape-of .result .total) (total t) (c .if1 .taken)
 
 returns-2 : tie.Need-returns-2
 returns-2 c =
-    let t = c .before .before in
-    let p = t .before in
-    let y = p .before .before in
+    let t = c .before .before .before in
+    let y = t .before in
     let a = y .before .args in
-    one-part (a .parts .now) (bytes y) (p .«open» .result) (a .count) (a .end) (gathered p) (t .total-of .result) (t .total-of .ensures) (omega (arith, c .before .if1 .left)) (c .if2 .taken)
-
-array-read-if3 : tie.Need-array-read-if3
-array-read-if3 c = search needs
+    one-part (a .parts .now) (bytes y) (first y) (a .count) (a .end) (gathered y) (t .shape-of .result .total) (total t) (omega (arith, c .before .if1 .left)) (c .if2 .taken)
 
 returns-3 : tie.Need-returns-3
 returns-3 c =
     let t = c .before .before .before .before .before in
-    let p = t .before in
-    let y = p .before .before in
+    let y = t .before in
     let a = y .before .args in
-    many-ris (a .parts .now) (bytes y) (p .«open» .result) (a .count) (a .end) (gathered p) (t .total-of .result) (t .total-of .ensures) (omega (arith, c .before .before .before .if2 .left)) (c .if3 .taken)
-
-array-read-if4 : tie.Need-array-read-if4
-array-read-if4 c = search needs
+    many-ris (a .parts .now) (bytes y) (first y) (a .count) (a .end) (gathered y) (t .shape-of .result .total) (total t) (omega (arith, c .before .before .if2 .left))
+    (subst (λ (x : Shape). 0 < x .ris) (t .shape-of .ensures) (c .if3 .taken))
 
 returns-4 : tie.Need-returns-4
 returns-4 c =
-    let t = c .before .before .before .before .before .before in
-    let p = t .before in
-    let y = p .before .before in
+    let t = c .before .before .before .before .before .before .before in
+    let y = t .before in
     let a = y .before .args in
-    no-times (a .parts .now) (bytes y) (p .«open» .result) (a .count) (a .end) (gathered p) (t .total-of .result) (t .total-of .ensures) (omega (arith, c .before .before .before .before .before .if1 .left)) (omega (arith, c .before .if3 .left)) (c .if4 .taken)
+    no-times (a .parts .now) (bytes y) (first y) (a .count) (a .end) (gathered y) (t .shape-of .result .total) (total t) (omega (arith, c .before .before .before .before .before .if1 .left))
+    (subst (λ (x : Shape). x .ris ≤ 0) (t .shape-of .ensures) (omega (arith, c .before .before .if3 .left))) (subst (λ (x : Shape). x .trig < 1) (t .shape-of .ensures) (c .if4 .taken))
 
-sub-rise : tie.Need-sub-rise
-sub-rise c =
-    let p = c .before .before .before .before .before .before .before .before .before in
-    let y = p .before .before in
-    let a = y .before .args in
-    start-within (a .parts .now) (bytes y) (p .«open» .result) (a .count) (a .end) (gathered p)
-
-array-read-rise : tie.Need-array-read-rise
-array-read-rise c = search needs
-
-cast-rise : tie.Need-cast-rise
-cast-rise c =
-    let p = c .before .before .before .before .before .before .before .before .before in
-    let y = p .before .before in
-    let a = y .before .args in
-    omega (arith, row-ends (a .parts .now) (bytes y) (p .«open» .result) (a .count) (a .end) (gathered p) 3 (omega arith), y .before .pre .ends, first-within (a .parts .now))
+-- where TRIGTIME is there
+there : (c : tie.Else4) → let y = c .before .before .before .before .before .before .before .before in 0 < getD (first y .layout .lengths) 3 0
+there c = subst (λ (x : Shape). 0 < x .trig) (c .before .before .before .before .before .before .before .shape-of .ensures) (omega (arith, c .if4 .left))
 
 rise-requires : tie.Need-rise-requires
 rise-requires c κs =
-    let p = c .before .before .before .before .before .before .before .before .before in
-    let y = p .before .before in
+    let t = c .before .before .before .before .before .before .before in
+    let y = t .before in
     let x = y .before in
     let a = x .args in
-    let there = c .before .before .if4 .left in
-    (timed (a .parts .now) (bytes y) (p .«open» .result) (a .count) (a .end) (gathered p) there (trig-wide (a .parts .now) (bytes y) (p .«open» .result) (a .count) (a .end) (gathered p) there), (x .pre .count, omega (arith, x .pre .count, x .pre .together .most)))
+    let at = timed (a .parts .now) (bytes y) (first y) (a .count) (a .end) (gathered y) (there c) (trig-wide (a .parts .now) (bytes y) (first y) (a .count) (a .end) (gathered y) (there c)) in
+    (subst (λ (f : Shape). Timed (f .order) (f .long) (f .from) (a .parts .now)) (sym (t .shape-of .ensures)) at, (x .pre .count, omega (arith, x .pre .count, x .pre .together .most)))
 
 returns-5 : tie.Need-returns-5
 returns-5 c =
-    let t = c .before .before .before .before .before .before .before .before .before in
-    let p = t .before in
-    let y = p .before .before in
+    let t = c .before .before .before .before .before .before .before .before in
+    let y = t .before in
     let a = y .before .args in
-    by-times (a .parts .now) (bytes y) (p .«open» .result) (a .count) (a .end) (gathered p) (t .total-of .result) (t .total-of .ensures) (omega (arith, c .before .before .before .before .before .before .before .before .if1 .left)) (omega (arith, c .before .before .before .before .if3 .left)) (c .before .before .before .if4 .left) (c .rise .result) (c .rise .ensures)
+    by-times (a .parts .now) (bytes y) (first y) (a .count) (a .end) (gathered y) (t .shape-of .result .total) (total t) (omega (arith, c .before .before .before .before .before .before .if1 .left))
+    (subst (λ (x : Shape). x .ris ≤ 0) (t .shape-of .ensures) (omega (arith, c .before .before .before .if3 .left))) (there (c .before)) (c .rise .result)
+    (c .rise .ensures ∙ ap (λ (f : Shape). ascending (timesAt (f .order) (f .from) (a .parts .now))) (t .shape-of .ensures))
 
 pub is-block-spec : {M : Type 1} → statement M
 is-block-spec =
     tie.close
-    (tie.spec
-    sub-open
-    part-open-start
-    part-open-end
-    open-requires
-    total-of-requires
-    returns
-    returns-2
-    array-read-if3
-    returns-3
-    array-read-if4
-    returns-4
-    sub-rise
-    array-read-rise
-    cast-rise
-    rise-requires
-    returns-5)
+    (tie.spec shape-of-requires returns returns-2 returns-3 returns-4 rise-requires returns-5)
