@@ -1,6 +1,6 @@
 -- The tables by index: each can be placed by the first part's layout (`can-place`), is what the joined block has (`placed`), and is n times as long as the first's (`table-long`).
 use mathlib.Core.Path.{_≡_, refl, sym, ap, ap₂, _∙_, subst}
-use Prim.Native.Nat.{ℕ, suc, _+_, _-_, _*_, _≤_, _<_}
+use Prim.Native.Nat.{ℕ, zero, suc, _+_, _-_, _*_, _≤_, _<_}
 use native.Mathlib.Nat.{suc-mul}
 use native.Mathlib.Omega.{arith}
 use mathlib.Core.Bool.{Bool, true, false}
@@ -9,13 +9,11 @@ use lib.ListN.{length, getD, take, drop, length-append, length-take}
 use lib.Seq.{take-all}
 use lib.Dec.{leb}
 use borrow.Author.Tests.{leb-true, leb-false}
-use Rattle.rules.specs.Numbers.{Bytes, splice}
+use Rattle.rules.specs.Numbers.{Bytes, splice, startsFrom}
 use Rattle.rules.specs.Wave.{orderOf, lengthsOf, startsOf}
 use Rattle.rules.specs.Rules.{payloadStart, stated, refusal, opened}
 use Rattle.rules.proofs.Opened.{good-opened}
-use Rattle.block.specs.declared.Opened.{Opened}
 use Rattle.block.specs.Opened.{layoutOf, calibrationOf, acceptedAs, openedAs}
-use Rattle.block.proofs.Answers.{accepted-as}
 use Rattle.copies.specs.Copies.{gather}
 use Rattle.copies.proofs.Laws.{splice-none, splice-splice, gather-add, length-part}
 use Rattle.joining.specs.Join.{partEnd, partsIn, byIndex}
@@ -25,7 +23,9 @@ use Rattle.joining.proofs.Index.{length-byIndex, every-byIndex}
 use Rattle.joining.proofs.Placing.{stretch}
 use Rattle.parts.specs.Parts.{Placeable, rowOf, rowsOf}
 use Rattle.parts.proofs.Tables.{first-bytes, first-good, first-ends, placeable, table-rows, stretch-ends}
-use Rattle.joins.specs.Steps.{Counted, Gathered, tableOf, tablesTo}
+use Rattle.fronts.specs.declared.Lead.{Lead}
+use Rattle.fronts.specs.Fronts.{leadOf}
+use Rattle.joins.specs.Steps.{Counted, Gathered, startBy, tableOf, tablesTo}
 
 flat-length : (f : List ℕ → List ℕ) (w : ℕ) (xs : List (List ℕ)) → Every (λ p. length (f p) ≡ w) xs → length (flatten (map f xs)) ≡ length xs * w
 unfolding flatten
@@ -36,6 +36,14 @@ flat-length f w (x ∷ xs) h = omega (arith, length-append (f x) (flatten (map f
 gather-grows : (f : ℕ → List ℕ) (k m : ℕ) → length (gather f k) ≤ length (gather f (k + m))
 gather-grows f k m = omega (arith, ap length (gather-add f k m), length-append (gather f k) (gather (λ j. f (k + j)) m))
 
+-- a table starts where the one before it ends
+starts-next : (a : ℕ) (ls : List ℕ) (i : ℕ) → suc i < length ls → getD (startsFrom a ls) (suc i) 0 ≡ getD (startsFrom a ls) i 0 + getD ls i 0
+unfolding startsFrom
+starts-next a [] i h = absurd (omega arith)
+starts-next a (x ∷ []) zero h = absurd (omega arith)
+starts-next a (x ∷ y ∷ ls) zero h = refl
+starts-next a (x ∷ ls) (suc i) h = starts-next (a + x) ls i (omega arith)
+
 -- the first part stands at the slice's start
 module _ (s : List ℕ) where
   pub first-within : length (getD (partsIn s) 0 []) ≤ length s
@@ -44,6 +52,17 @@ module _ (s : List ℕ) where
       go : (s : List ℕ) → length (getD (partsIn s) 0 []) ≤ length s
       go [] = omega (arith, ap (λ (ps : List (List ℕ)). length (getD ps 0 [])) parts-none)
       go (x ∷ s) = let p : List ℕ = x ∷ s in omega (arith, ap (λ (ps : List (List ℕ)). length (getD ps 0 [])) (parts-next p (omega arith)), length-take (partEnd p) p)
+
+-- nothing is written of a table that is not there
+pub rows-none : (s out : List ℕ) (from size n at : ℕ) → size < 1 → out ≡ splice out at (rowsOf from size 0 n s)
+rows-none s out from size n at z =
+    let e : size ≡ 0 = omega arith in
+    let ps : List (List ℕ) = take n (byIndex (partsIn s)) in
+    splice-none out at ∙ ap (splice out at) (sym (ap (λ (w : ℕ). rowsOf from w 0 n s) e ∙ no-elements (rowsOf from 0 0 n s) (flat-length (rowOf from 0) 0 ps (every-part ps) ∙ omega arith)))
+  where
+    every-part : (ps : List (List ℕ)) → Every (λ p. length (rowOf from 0 p) ≡ 0) ps
+    every-part [] = tt
+    every-part (p ∷ ps) = (length-take 0 (drop (payloadStart p + from) p) ∙ omega arith, every-part ps)
 
 -- the first part, by where it ends
 take-own : (k : ℕ) (s : List ℕ) → take (length (take k s)) s ≡ take k s
@@ -63,83 +82,82 @@ first-part (x ∷ t) end h e =
     let m : end - 0 ≡ length (take (partEnd s) s) = omega (arith, ap length f) in
     ap (λ (n : ℕ). take n s) m ∙ take-own (partEnd s) s ∙ sym f
 
-pub gathered-by : (s : List ℕ) (o : Opened) (n end : ℕ) → Counted s n end → o ≡ openedAs (take (end - 0) (drop 0 s)) → Gathered s o n end
-gathered-by s o n end k e = record { together = k .together; opens = e ∙ ap openedAs (first-part s end (k .together .some) (k .ends)); count = k .count; ends = k .ends }
+pub gathered-by : (s : List ℕ) (lead : Lead) (n end : ℕ) → Counted s n end → lead ≡ leadOf (take (end - 0) (drop 0 s)) → Gathered s lead n end
+gathered-by s lead n end k e = record { together = k .together; leads = e ∙ ap leadOf (first-part s end (k .together .some) (k .ends)); count = k .count; ends = k .ends }
 
-module _ (s : List ℕ) (b : Bytes s) (o : Opened) (n end : ℕ) (g : Gathered s o n end) where
+module _ (s : List ℕ) (b : Bytes s) (lead : Lead) (n end : ℕ) (g : Gathered s lead n end) where
   abbrev firstPart : List ℕ
   firstPart = getD (partsIn s) 0 []
 
-  pub accepted : o ≡ acceptedAs (payloadStart firstPart) (opened firstPart .head) (layoutOf (opened firstPart .head)) (calibrationOf (opened firstPart .head))
-  accepted = accepted-as firstPart o (g .opens) (first-good s b (g .together))
-
   -- L of the parts
-  pub long-is : end - o .start ≡ stated firstPart
+  pub long-is : end - lead .start ≡ stated firstPart
   long-is =
-      let q : o .start ≡ payloadStart firstPart = ap (λ (x : Opened). x .start) accepted in
+      let q : lead .start ≡ payloadStart firstPart = ap (λ (x : Lead). x .start) (g .leads) in
       omega (arith, q, g .ends, first-ends s b (g .together))
 
-  pub start-within : o .start ≤ end
+  pub start-within : lead .start ≤ end
   start-within =
-      let q : o .start ≡ payloadStart firstPart = ap (λ (x : Opened). x .start) accepted in
+      let q : lead .start ≡ payloadStart firstPart = ap (λ (x : Lead). x .start) (g .leads) in
       omega (arith, q, g .ends, first-ends s b (g .together))
 
-  pub can-place : Placeable (o .order) (end - o .start) s
-  can-place = subst (λ (x : ℕ). Placeable x (end - o .start) s) (sym (ap (λ (x : Opened). x .order) accepted)) (subst (λ (x : ℕ). Placeable (orderOf (opened firstPart .head)) x s) (sym long-is) (placeable s b (g .together)))
+  pub can-place : Placeable (lead .order) (end - lead .start) s
+  can-place = subst (λ (x : ℕ). Placeable x (end - lead .start) s) (sym (ap (λ (x : Lead). x .order) (g .leads))) (subst (λ (x : ℕ). Placeable (orderOf (opened firstPart .head)) x s) (sym long-is) (placeable s b (g .together)))
 
   module _ (i : ℕ) (l : i < 10) where
-    pub row-ends : getD (o .layout .starts) i 0 + getD (o .layout .lengths) i 0 ≤ end - o .start
+    pub row-ends : startBy lead i + getD (lead .lengths) i 0 ≤ end - lead .start
     unfolding startsOf
     row-ends =
-        subst (λ (x : Opened). getD (x .layout .starts) i 0 + getD (x .layout .lengths) i 0 ≤ end - o .start) (sym accepted)
+        subst (λ (x : Lead). startBy x i + getD (x .lengths) i 0 ≤ end - lead .start) (sym (g .leads))
         (subst (λ (x : ℕ). getD (startsOf (opened firstPart .head)) i 0 + getD (lengthsOf (opened firstPart .head)) i 0 ≤ x) (sym long-is) (stretch-ends firstPart (first-bytes s b (g .together)) (first-good s b (g .together)) i l))
 
-    rows-are : flatten (map (rowOf (getD (o .layout .starts) i 0) (getD (o .layout .lengths) i 0)) (byIndex (partsIn s))) ≡ tableOf i s
+    rows-are : flatten (map (rowOf (startBy lead i) (getD (lead .lengths) i 0)) (byIndex (partsIn s))) ≡ tableOf i s
     unfolding startsOf
     rows-are =
-        ap (λ (x : Opened). flatten (map (rowOf (getD (x .layout .starts) i 0) (getD (x .layout .lengths) i 0)) (byIndex (partsIn s)))) accepted
+        ap (λ (x : Lead). flatten (map (rowOf (startBy x i) (getD (x .lengths) i 0)) (byIndex (partsIn s)))) (g .leads)
         ∙ ap (flatten {A = ℕ}) (table-rows s b (g .together) i l)
 
-    pub placed : rowsOf (getD (o .layout .starts) i 0) (getD (o .layout .lengths) i 0) 0 n s ≡ tableOf i s
+    pub placed : rowsOf (startBy lead i) (getD (lead .lengths) i 0) 0 n s ≡ tableOf i s
     placed =
-        ap (λ (ps : List (List ℕ)). flatten (map (rowOf (getD (o .layout .starts) i 0) (getD (o .layout .lengths) i 0)) ps)) (take-all n (byIndex (partsIn s)) (omega (arith, g .count, length-byIndex (partsIn s))))
+        ap (λ (ps : List (List ℕ)). flatten (map (rowOf (startBy lead i) (getD (lead .lengths) i 0)) ps)) (take-all n (byIndex (partsIn s)) (omega (arith, g .count, length-byIndex (partsIn s))))
         ∙ rows-are
 
-    pub table-long : length (tableOf i s) ≡ n * getD (o .layout .lengths) i 0
+    pub table-long : length (tableOf i s) ≡ n * getD (lead .lengths) i 0
     table-long =
-        let from : ℕ = getD (o .layout .starts) i 0 in
-        let size : ℕ = getD (o .layout .lengths) i 0 in
+        let from : ℕ = startBy lead i in
+        let size : ℕ = getD (lead .lengths) i 0 in
         sym (ap length rows-are)
         ∙ flat-length (rowOf from size) size (byIndex (partsIn s))
         (every-byIndex (λ p. length (rowOf from size p) ≡ size) (partsIn s) (g .together .once) (every-map (λ p r. length-part p (payloadStart p + from) size (omega (arith, r .whole, row-ends))) (partsIn s) (can-place .sound)))
         ∙ ap (λ (m : ℕ). m * size) (length-byIndex (partsIn s) ∙ sym (g .count))
 
-    -- nothing is written of a table that is not there
-    pub table-none : (out : List ℕ) (at : ℕ) → getD (o .layout .lengths) i 0 < 1 → out ≡ splice out at (tableOf i s)
-    table-none out at z =
-        let e : getD (o .layout .lengths) i 0 ≡ 0 = omega arith in
-        let m : length (tableOf i s) ≡ 0 = table-long ∙ ap (λ (x : ℕ). n * x) e ∙ omega arith in
-        splice-none out at ∙ ap (splice out at) (sym (no-elements (tableOf i s) m))
-
   -- ---- the five lengths from the third on
+
+  pub first-start : getD (lead .lengths) 0 0 + getD (lead .lengths) 1 0 + getD (lead .lengths) 2 0 ≡ startBy lead 3
+  unfolding startsFrom
+  first-start = subst (λ (x : Lead). getD (x .lengths) 0 0 + getD (x .lengths) 1 0 + getD (x .lengths) 2 0 ≡ startBy x 3) (sym (g .leads)) (omega arith)
+
+  pub next-start : (k : ℕ) → k < 5 → startBy lead (3 + k) + getD (lead .lengths) (3 + k) 0 ≡ startBy lead (3 + (k + 1))
+  next-start k l =
+      let e : suc (3 + k) ≡ 3 + (k + 1) = omega arith in
+      sym (starts-next 0 (lead .lengths) (3 + k) (omega (arith, ap (λ (x : Lead). length (x .lengths)) (g .leads)))) ∙ ap (startBy lead) e
 
   -- the RES one among them is 0
   none-reserved : tableOf 5 s ≡ []
   none-reserved =
-      let z : getD (o .layout .lengths) 5 0 ≡ 0 = ap (λ (x : Opened). getD (x .layout .lengths) 5 0) accepted ∙ good-opened firstPart (first-bytes s b (g .together)) (first-good s b (g .together)) .tile .none .1 .0 in
+      let z : getD (lead .lengths) 5 0 ≡ 0 = ap (λ (x : Lead). getD (x .lengths) 5 0) (g .leads) ∙ good-opened firstPart (first-bytes s b (g .together)) (first-good s b (g .together)) .tile .none .1 .0 in
       no-elements (tableOf 5 s) (table-long 5 (omega arith) ∙ ap (λ (x : ℕ). n * x) z ∙ omega arith)
 
   pub five-tables : tablesTo 5 s ≡ tableOf 3 s ++ tableOf 4 s ++ tableOf 6 s ++ tableOf 7 s
   five-tables = ap (λ (x : List ℕ). tableOf 3 s ++ tableOf 4 s ++ x ++ tableOf 6 s ++ tableOf 7 s) none-reserved ∙ ap (λ (x : List ℕ). x ++ tableOf 6 s ++ tableOf 7 s) (append-nil (tableOf 3 s ++ tableOf 4 s))
 
-  pub table-room : (k : ℕ) → k < 5 → length (tablesTo k s) + n * getD (o .layout .lengths) (3 + k) 0 ≤ length (tablesTo 5 s)
+  pub table-room : (k : ℕ) → k < 5 → length (tablesTo k s) + n * getD (lead .lengths) (3 + k) 0 ≤ length (tablesTo 5 s)
   table-room k l =
       let f : ℕ → List ℕ = λ j. tableOf (3 + j) s in
       let e : suc k + (4 - k) ≡ 5 = omega arith in
       omega (arith, gather-grows f (suc k) (4 - k), ap (λ (m : ℕ). length (gather f m)) e, length-append (tablesTo k s) (tableOf (3 + k) s), table-long (3 + k) (omega arith))
 
   -- one table more
-  pub next-table : (k : ℕ) → k < 5 → (length (tablesTo (k + 1) s) ≡ length (tablesTo k s) + n * getD (o .layout .lengths) (3 + k) 0)
+  pub next-table : (k : ℕ) → k < 5 → (length (tablesTo (k + 1) s) ≡ length (tablesTo k s) + n * getD (lead .lengths) (3 + k) 0)
       × ((out : List ℕ) (at : ℕ) → at + length (tablesTo k s) ≤ length out → splice (splice out at (tablesTo k s)) (at + length (tablesTo k s)) (tableOf (3 + k) s) ≡ splice out at (tablesTo (k + 1) s))
   next-table k l =
       let f : ℕ → List ℕ = λ j. tableOf (3 + j) s in

@@ -1,16 +1,16 @@
 -- What is known on the way through a join. Definitions only.
 use mathlib.Core.Path.{_≡_}
 use mathlib.Core.List.{List, [], map, flatten}
-use Prim.Native.Nat.{ℕ, _+_, _-_, _*_}
+use Prim.Native.Nat.{ℕ, _+_, _*_}
 use lib.ListN.{length, getD}
-use Rattle.rules.specs.Rules.{refusal, opened}
-use Rattle.block.specs.declared.Opened.{Opened}
-use Rattle.block.specs.Opened.{openedAs}
+use Rattle.rules.specs.Numbers.{startsFrom}
+use Rattle.rules.specs.Rules.{refusal}
 use Rattle.copies.specs.Copies.{gather}
-use Rattle.joins.specs.declared.Shape.{Shape}
 use Rattle.joining.specs.Join.{partsIn, byIndex, joinedBytes}
 use Rattle.joining.proofs.Says.{Together}
 use Rattle.joining.proofs.Placing.{stretch}
+use Rattle.fronts.specs.declared.Lead.{Lead}
+use Rattle.fronts.specs.Fronts.{leadOf}
 
 -- the n parts of s belong together, and the first ends at `end`
 pub record Counted (s : List ℕ) (n end : ℕ) : Type 0 where
@@ -18,35 +18,28 @@ pub record Counted (s : List ℕ) (n end : ℕ) : Type 0 where
   pub count : n ≡ length (partsIn s)
   pub ends : end ≡ length (getD (partsIn s) 0 [])
 
--- and it was opened
-pub record Gathered (s : List ℕ) (o : Opened) (n end : ℕ) : Type 0 where
+-- and its lead was read
+pub record Gathered (s : List ℕ) (lead : Lead) (n end : ℕ) : Type 0 where
   pub together : Together (partsIn s)
-  pub opens : o ≡ openedAs (getD (partsIn s) 0 [])
+  pub leads : lead ≡ leadOf (getD (partsIn s) 0 [])
   pub count : n ≡ length (partsIn s)
   pub ends : end ≡ length (getD (partsIn s) 0 [])
 
+-- where table i starts in a payload
+abbrev pub startBy : Lead → ℕ → ℕ
+startBy lead i = getD (startsFrom 0 (lead .lengths)) i 0
+
 -- L of n such parts joined
-abbrev pub totalBy : Opened → ℕ → ℕ
-totalBy o n =
-    let l = o .layout .lengths in
+abbrev pub totalBy : Lead → ℕ → ℕ
+totalBy lead n =
+    let l = lead .lengths in
     346 + (getD l 1 0 + (n * getD l 3 0 + (getD l 4 0 + (n * getD l 6 0 + n * getD l 7 0))))
 
--- what the rules of a joined block ask of the first part, which ends at `end`
-abbrev pub shapeBy : Opened → ℕ → ℕ → Shape
-shapeBy o n end = record {
-  order = o .order;
-  long = end - o .start;
-  total = totalBy o n;
-  ris = getD (o .layout .lengths) 4 0;
-  trig = getD (o .layout .lengths) 3 0;
-  from = getD (o .layout .starts) 3 0;
-}
-
 -- and their joined block is good
-pub record Ready (s : List ℕ) (o : Opened) (n end total : ℕ) : Type 0 where
-  pub gathered : Gathered s o n end
+pub record Ready (s : List ℕ) (lead : Lead) (n end total : ℕ) : Type 0 where
+  pub gathered : Gathered s lead n end
   pub block : refusal (joinedBytes (partsIn s)) ≡ 0
-  pub long : total ≡ totalBy o n
+  pub long : total ≡ totalBy lead n
 
 -- the bytes of all parts by index, of one of the ten lengths
 abbrev pub tableOf : ℕ → List ℕ → List ℕ

@@ -1,34 +1,22 @@
 // Segments put where they belong: blocks of one segment each, lent back to back in any order, joined by their SEGMENT_INDEX.
 mod writes;
 
-use block::Opened;
+use fronts::Lead;
 ghost use mathlib.Core.Path.{_≡_};
 ghost use mathlib.Core.Bool.{true};
 ghost use mathlib.Core.Logic.{_↔_};
 ghost use Prim.Native.Nat.{_+_, _*_, _≤_};
-ghost use mathlib.Core.List.{[]};
-ghost use lib.ListN.{length, getD};
+ghost use lib.ListN.{length};
 ghost use Rattle.rules.specs.Rules.{refusal};
-ghost use Rattle.block.specs.Opened.{openedAs};
 ghost use Rattle.joining.specs.Join.{partsIn, joinedBytes, joinRefusal};
 ghost use Rattle.joins.specs.Joins.{refusedAs, joinedAs, outAs};
-ghost use Rattle.joins.specs.Steps.{Counted, totalBy, shapeBy};
+ghost use Rattle.joins.specs.Steps.{Counted, totalBy};
 
 // What a join answers: 0, how many parts there were and the bytes written; or its refusal's number and zeros.
 pub struct Joined {
     pub refusal: u32,
     pub count: u32,
     pub length: u32,
-}
-
-// Of the joined block its length; of a part its byte order, its payload's length, and how long RISTIME and TRIGTIME are and where the latter stands.
-struct Shape {
-    order: u32,
-    long: usize,
-    total: usize,
-    ris: u32,
-    trig: u32,
-    from: usize,
 }
 
 // Writes the join of the parts to out's start. Refused, it writes nothing.
@@ -46,12 +34,12 @@ pub fn join(parts: &[u8], out: &mut [u8]) -> Joined
     if !is_block(parts, count, end) {
         return refused(16);
     }
-    let o = block::open(&parts[0..end]);
-    let total = total_of(o, count);
+    let lead = fronts::lead_of(&parts[0..end]);
+    let total = total_of(lead, count);
     if out.len() < total + 11 {
         return refused(13);
     }
-    writes::write_joined(parts, o, count, end, total as u32, out);
+    writes::write_joined(parts, lead, count, end, total as u32, out);
     Joined {
         refusal: 0,
         count: count as u32,
@@ -88,12 +76,11 @@ fn refused(number: u32) -> Joined
 }
 
 // L of the joined block.
-fn total_of(o: Opened, count: usize) -> usize
+fn total_of(lead: Lead, count: usize) -> usize
     requires { ⌜ count ≤ 1000 ⌝ }
-    ensures { λ r. ⌜ r ≡ totalBy o count ⌝ }
+    ensures { λ r. ⌜ r ≡ totalBy lead count ⌝ }
 {
-    let l = o.layout;
-    let a = l.lengths;
+    let a = lead.lengths;
     sum_of(count, a[1], a[3], a[4], a[6], a[7])
 }
 
@@ -113,42 +100,20 @@ fn is_block(parts: &[u8], count: usize, end: usize) -> bool
     requires { ⌜ Counted (now parts) count end ⌝ }
     ensures { λ r. ⌜ (r ≡ true) ↔ (refusal (joinedBytes (partsIn (now (parts .entry)))) ≡ 0) ⌝ }
 {
-    let first = shape_of(parts, count, end);
-    if 16777216 < first.total {
+    let lead = fronts::lead_of(&parts[0..end]);
+    if 16777216 < total_of(lead, count) {
         return false;
     }
     if count < 2 {
         return true;
     }
-    if 0 < first.ris {
+    let lengths = lead.lengths;
+    if 0 < lengths[4] {
         return false;
     }
-    if first.trig < 1 {
+    if lengths[3] < 1 {
         return true;
     }
-    arrivals::rise(parts, first.order, first.long, first.from, count)
-}
-
-// What these rules ask of the first part. It is opened in here, so that its answer leaves the stack before the times come.
-fn shape_of(parts: &[u8], count: usize, end: usize) -> Shape
-    requires { ⌜ Counted (now parts) count end ⌝ }
-    ensures { λ r. ⌜ r ≡ shapeBy (openedAs (getD (partsIn (now (parts .entry))) 0 [])) count end ⌝ }
-{
-    let o = block::open(&parts[0..end]);
-    let l = o.layout;
-    let lengths = l.lengths;
-    let starts = l.starts;
-    let long = end - o.start;
-    let total = total_of(o, count);
-    let ris = lengths[4];
-    let trig = lengths[3];
-    let from = starts[3] as usize;
-    Shape {
-        order: o.order,
-        long,
-        total,
-        ris,
-        trig,
-        from,
-    }
+    let trig = lengths[0] as usize + lengths[1] as usize + lengths[2] as usize;
+    arrivals::rise(parts, lead.order, end - lead.start, trig, count)
 }

@@ -100,7 +100,7 @@ pub fn place_rows(
 }
 
 // Where the payload of a good part starts, which starts at `at` with `#` and a digit.
-fn payload_at(parts: &[u8], at: usize) -> usize
+pub fn payload_at(parts: &[u8], at: usize) -> usize
     requires { ⌜ (at + 11 < length (now parts)) × (49 ≤ getD (now parts) (at + 1) 0) × (getD (now parts) (at + 1) 0 ≤ 57) ⌝ }
     ensures { λ r. ⌜ r ≡ at + payloadStart (drop at (now (parts .entry))) ⌝ }
 {

@@ -8,7 +8,7 @@ use Rattle.rules.specs.Numbers.{Bytes}
 use Rattle.rules.proofs.Numbers.{below-index}
 use borrow.Author.Needs.{needs}
 use Rattle.joins.proofs.Tabled.{first-within}
-use Rattle.joins.proofs.Joining.{judge-refuses, count-few, counted, block-refuses, ready, total-small, short-refuses, joins}
+use Rattle.joins.proofs.Joining.{judge-refuses, count-few, counted, first-good-by, block-refuses, ready, total-small, short-refuses, joins}
 use Rattle.joins.proofs.join.Statement.{statement}
 use Rattle.joins.proofs.join.Tie as tie
 
@@ -46,17 +46,21 @@ returns-2 c =
     let k = c .before .before .is-block in
     block-refuses (a .parts .now) (bytes y) (a .out .now) (j .result) (j .ensures) (c .before .before .before .if1 .left) (λ e. false≢true (sym (not-true (k .result) (c .before .if2 .taken)) ∙ k .ensures .1 e)) (c .refused2 .result) (c .refused2 .ensures)
 
-sub-open : tie.Need-sub-open
-sub-open c = search needs
+sub-lead-of : tie.Need-sub-lead-of
+sub-lead-of c = search needs
 
-part-open-start : tie.Need-part-open-start
-part-open-start c = search needs
+part-lead-of-start : tie.Need-part-lead-of-start
+part-lead-of-start c = search needs
 
-part-open-end : tie.Need-part-open-end
-part-open-end c = omega (arith, c .before .before .before .judge .ensures .ends (c .before .before .if1 .left), first-within (c .before .before .before .before .before .before .args .parts .now))
+part-lead-of-end : tie.Need-part-lead-of-end
+part-lead-of-end c = omega (arith, c .before .before .before .judge .ensures .ends (c .before .before .if1 .left), first-within (c .before .before .before .before .before .before .args .parts .now))
 
-open-requires : tie.Need-open-requires
-open-requires c κs = search needs
+lead-of-requires : tie.Need-lead-of-requires
+lead-of-requires c κs =
+    let y = c .before .before .before .before .before .before in
+    let a = y .before .args in
+    let j = c .before .before .before .before .judge in
+    first-good-by (a .parts .now) (bytes y) (a .out .now) (j .result) (j .ensures) (c .before .before .before .if1 .left)
 
 total-of-requires : tie.Need-total-of-requires
 total-of-requires c κs =
@@ -70,10 +74,10 @@ add-if3 c =
     let y = c .before .before .before .before .before .before .before .before in
     let a = y .before .args in
     let j = c .before .before .before .before .before .before .judge in
-    let o = c .before .«open» in
+    let v = c .before .lead-of in
     let k = c .before .before .before .before .is-block in
     let t = c .total-of in
-    omega (arith, total-small (a .parts .now) (bytes y) (a .out .now) (j .result) (j .ensures) (c .before .before .before .before .before .if1 .left) (k .ensures .0 (not-false (k .result) (c .before .before .before .if2 .left))) (o .result) (o .ensures) (t .result) (t .ensures))
+    omega (arith, total-small (a .parts .now) (bytes y) (a .out .now) (j .result) (j .ensures) (c .before .before .before .before .before .if1 .left) (k .ensures .0 (not-false (k .result) (c .before .before .before .if2 .left))) (v .result) (v .ensures) (t .result) (t .ensures))
 
 refused-requires-3 : tie.Need-refused-requires-3
 refused-requires-3 c κs = search needs
@@ -83,30 +87,30 @@ returns-3 c =
     let y = c .before .before .before .before .before .before .before .before .before .before in
     let a = y .before .args in
     let j = c .before .before .before .before .before .before .before .before .judge in
-    let o = c .before .before .before .«open» in
+    let v = c .before .before .before .lead-of in
     let k = c .before .before .before .before .before .before .is-block in
     let t = c .before .before .total-of in
-    short-refuses (a .parts .now) (bytes y) (a .out .now) (j .result) (j .ensures) (c .before .before .before .before .before .before .before .if1 .left) (k .ensures .0 (not-false (k .result) (c .before .before .before .before .before .if2 .left))) (o .result) (o .ensures) (t .result) (t .ensures) (c .before .if3 .taken) (c .refused3 .result) (c .refused3 .ensures)
+    short-refuses (a .parts .now) (bytes y) (a .out .now) (j .result) (j .ensures) (c .before .before .before .before .before .before .before .if1 .left) (k .ensures .0 (not-false (k .result) (c .before .before .before .before .before .if2 .left))) (v .result) (v .ensures) (t .result) (t .ensures) (c .before .if3 .taken) (c .refused3 .result) (c .refused3 .ensures)
 
 cast-write-joined : tie.Need-cast-write-joined
 cast-write-joined c =
     let y = c .before .before .before .before .before .before .before .before .before in
     let a = y .before .args in
     let j = c .before .before .before .before .before .before .before .judge in
-    let o = c .before .before .«open» in
+    let v = c .before .before .lead-of in
     let k = c .before .before .before .before .before .is-block in
     let t = c .before .total-of in
-    omega (arith, total-small (a .parts .now) (bytes y) (a .out .now) (j .result) (j .ensures) (c .before .before .before .before .before .before .if1 .left) (k .ensures .0 (not-false (k .result) (c .before .before .before .before .if2 .left))) (o .result) (o .ensures) (t .result) (t .ensures))
+    omega (arith, total-small (a .parts .now) (bytes y) (a .out .now) (j .result) (j .ensures) (c .before .before .before .before .before .before .if1 .left) (k .ensures .0 (not-false (k .result) (c .before .before .before .before .if2 .left))) (v .result) (v .ensures) (t .result) (t .ensures))
 
 write-joined-requires : tie.Need-write-joined-requires
 write-joined-requires c κs =
     let y = c .before .before .before .before .before .before .before .before .before .before in
     let a = y .before .args in
     let j = c .before .before .before .before .before .before .before .before .judge in
-    let o = c .before .before .before .«open» in
+    let v = c .before .before .before .lead-of in
     let k = c .before .before .before .before .before .before .is-block in
     let t = c .before .before .total-of in
-    (ready (a .parts .now) (bytes y) (a .out .now) (j .result) (j .ensures) (c .before .before .before .before .before .before .before .if1 .left) (k .ensures .0 (not-false (k .result) (c .before .before .before .before .before .if2 .left))) (o .result) (o .ensures) (t .result) (t .ensures), omega (arith, c .before .if3 .left))
+    (ready (a .parts .now) (bytes y) (a .out .now) (j .result) (j .ensures) (c .before .before .before .before .before .before .before .if1 .left) (k .ensures .0 (not-false (k .result) (c .before .before .before .before .before .if2 .left))) (v .result) (v .ensures) (t .result) (t .ensures), omega (arith, c .before .if3 .left))
 
 cast-t17 : tie.Need-cast-t17
 cast-t17 c =
@@ -123,10 +127,10 @@ cast-t20 c =
     let y = c .before .before .before .before .before .before .before .before .before .before .before .before .before in
     let a = y .before .args in
     let j = c .before .before .before .before .before .before .before .before .before .before .before .judge in
-    let o = c .before .before .before .before .before .before .«open» in
+    let v = c .before .before .before .before .before .before .lead-of in
     let k = c .before .before .before .before .before .before .before .before .before .is-block in
     let t = c .before .before .before .before .before .total-of in
-    omega (arith, total-small (a .parts .now) (bytes y) (a .out .now) (j .result) (j .ensures) (c .before .before .before .before .before .before .before .before .before .before .if1 .left) (k .ensures .0 (not-false (k .result) (c .before .before .before .before .before .before .before .before .if2 .left))) (o .result) (o .ensures) (t .result) (t .ensures))
+    omega (arith, total-small (a .parts .now) (bytes y) (a .out .now) (j .result) (j .ensures) (c .before .before .before .before .before .before .before .before .before .before .if1 .left) (k .ensures .0 (not-false (k .result) (c .before .before .before .before .before .before .before .before .if2 .left))) (v .result) (v .ensures) (t .result) (t .ensures))
 
 same-length : tie.Need-same-length
 same-length c = search needs
@@ -136,10 +140,10 @@ returns-4 c =
     let y = c .before .before .before .before .before .before .before .before .before .before .before .before .before in
     let a = y .before .args in
     let j = c .before .before .before .before .before .before .before .before .before .before .before .judge in
-    let o = c .before .before .before .before .before .before .«open» in
+    let v = c .before .before .before .before .before .before .lead-of in
     let k = c .before .before .before .before .before .before .before .before .before .is-block in
     let t = c .before .before .before .before .before .total-of in
-    let done = joins (a .parts .now) (bytes y) (a .out .now) (j .result) (j .ensures) (c .before .before .before .before .before .before .before .before .before .before .if1 .left) (k .ensures .0 (not-false (k .result) (c .before .before .before .before .before .before .before .before .if2 .left))) (o .result) (o .ensures) (t .result) (t .ensures) (omega (arith, c .before .before .before .before .if3 .left)) in
+    let done = joins (a .parts .now) (bytes y) (a .out .now) (j .result) (j .ensures) (c .before .before .before .before .before .before .before .before .before .before .if1 .left) (k .ensures .0 (not-false (k .result) (c .before .before .before .before .before .before .before .before .if2 .left))) (v .result) (v .ensures) (t .result) (t .ensures) (omega (arith, c .before .before .before .before .if3 .left)) in
     (done .0, c .before .before .write-joined .ensures ∙ done .1)
 
 pub join-spec : {M : Type 1} → statement M
@@ -152,10 +156,10 @@ join-spec =
     is-block-requires
     refused-requires-2
     returns-2
-    sub-open
-    part-open-start
-    part-open-end
-    open-requires
+    sub-lead-of
+    part-lead-of-start
+    part-lead-of-end
+    lead-of-requires
     total-of-requires
     add-if3
     refused-requires-3
