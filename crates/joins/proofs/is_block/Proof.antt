@@ -76,7 +76,7 @@ returns-3 c =
     let p = t .before in
     let y = p .before .before in
     let a = y .before .args in
-    many-ris (a .parts .now) (bytes y) (p .lead-of .result) (a .count) (a .end) (gathered p) (t .total-of .result) (t .total-of .ensures) (omega (arith, c .before .before .if2 .left)) (c .if3 .taken)
+    many-ris (a .parts .now) (bytes y) (p .lead-of .result) (a .count) (a .end) (gathered p) (t .total-of .result) (t .total-of .ensures) (omega (arith, c .before .before .if2 .left)) (omega (arith, c .if3 .taken))
 
 array-read-if4 : tie.Need-array-read-if4
 array-read-if4 c = search needs

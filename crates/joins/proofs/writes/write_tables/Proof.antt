@@ -31,7 +31,7 @@ room c =
     let x = y .before in
     let a = x .args in
     let l = c .before .loop in
-    omega (arith, l .inv .2, table-room (a .parts .now) (bytes y) (a .lead) (a .count) (a .end) (x .pre .0) (l .k) (c .loop-test .taken), x .pre .1)
+    omega (arith, l .inv .2, table-room (a .parts .now) (bytes y) (a .lead) (a .count) (a .end) (x .pre .0) (l .k) (omega (arith, c .loop-test .taken)), x .pre .1)
 
 -- and it stands in each payload
 row : (c : tie.In-loop Inv-loop μ-loop) → let a = c .before .before .before .before .before .before .args in let l = c .before .loop in l .from + getD (a .lead .lengths) (3 + l .k) 0 ≤ a .end - a .lead .start
@@ -134,11 +134,11 @@ loop-again c =
     let x = y .before in
     let a = x .args in
     let l = i .before .loop in
-    let n = next-table (a .parts .now) (bytes y) (a .lead) (a .count) (a .end) (x .pre .0) (l .k) (i .loop-test .taken) in
+    let n = next-table (a .parts .now) (bytes y) (a .lead) (a .count) (a .end) (x .pre .0) (l .k) (omega (arith, i .loop-test .taken)) in
     let rows : rowsOf (l .from) (getD (a .lead .lengths) (3 + l .k) 0) 0 (a .count) (a .parts .now) ≡ tableOf (3 + l .k) (a .parts .now) =
     ap (λ (m : ℕ). rowsOf m (getD (a .lead .lengths) (3 + l .k) 0) 0 (a .count) (a .parts .now)) (l .inv .1) ∙ placed (a .parts .now) (bytes y) (a .lead) (a .count) (a .end) (x .pre .0) (3 + l .k) (omega (arith, i .loop-test .taken)) in (
       omega (arith, i .loop-test .taken),
-      ap (λ (m : ℕ). m + getD (a .lead .lengths) (3 + l .k) 0) (l .inv .1) ∙ next-start (a .parts .now) (bytes y) (a .lead) (a .count) (a .end) (x .pre .0) (l .k) (i .loop-test .taken),
+      ap (λ (m : ℕ). m + getD (a .lead .lengths) (3 + l .k) 0) (l .inv .1) ∙ next-start (a .parts .now) (bytes y) (a .lead) (a .count) (a .end) (x .pre .0) (l .k) (omega (arith, i .loop-test .taken)),
       omega (arith, l .inv .2, n .0),
       w .ensures ∙ ap (splice (l .out) (l .to)) rows ∙ ap₂ {C = List ℕ} (λ u m. splice u m (tableOf (3 + l .k) (a .parts .now))) (l .inv .3) (l .inv .2) ∙ n .1 (a .out .now) (a .at) (omega (arith, room i, l .inv .2)),
       w .kept .1 .1 .1 .1 .1 .1 .0 ∙ l .inv .4,
