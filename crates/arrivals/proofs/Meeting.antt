@@ -1,13 +1,13 @@
 -- Parts met one after another. Where all were met they belong together exactly where each fitted and the indices from 1 on were seen (`met-together`, `together-met`); a bad one gives the join's number (`met-bad`).
 use mathlib.Core.Path.{_≡_, refl, sym, ap, ap₂, _∙_, subst}
-use Prim.Native.Nat.{ℕ, zero, suc, _+_, _≤_, _<_}
+use Prim.Native.Nat.{ℕ, suc, _+_, _≤_, _<_}
 use native.Mathlib.Omega.{arith}
 use mathlib.Core.Logic.{⊎-elim}
-use mathlib.Core.Bool.{Bool, true, false, cond, _&&_, false≢true}
+use mathlib.Core.Bool.{Bool, true, false, cond, _&&_}
 use mathlib.Core.List.{List, [], _∷_, _++_, append-assoc, append-nil}
 use lib.ListN.{length, getD, drop, replicate, length-append, drop-of-length-le}
 use lib.Dec.{leb, eqb}
-use borrow.Author.Tests.{leb-true, le-leb, eqb-true, eqb-false, eq-eqb, ne-eqb}
+use borrow.Author.Tests.{le-leb, eqb-true, eqb-false, eq-eqb, ne-eqb}
 use Rattle.rules.specs.Numbers.{Bytes, upFrom}
 use Rattle.rules.specs.Wave.{segments}
 use Rattle.rules.specs.Rules.{all, every?, refusal, opened}
@@ -17,10 +17,10 @@ use Rattle.rules.proofs.Opened.{good-opened}
 use Rattle.joining.specs.Join.{partsIn, indexOf, indexed, joinedBytes, common, joining, joinRefusal}
 use Rattle.joining.proofs.Lists.{Every, every-both, every-upFrom, upFrom-every}
 use Rattle.joining.proofs.Parts.{parts-none, parts-bytes}
-use Rattle.joining.proofs.Index.{Once, Within, within, once-few, indexed-append, indexed-own, indexed-other}
-use Rattle.joining.proofs.Says.{Together, Joins, firstBad, firstBad-next, firstBad-none, joined-tests, join-number}
+use Rattle.joining.proofs.Index.{Within, within, once-few, indexed-append, indexed-own}
+use Rattle.joining.proofs.Says.{Together, firstBad, firstBad-next, firstBad-none, joined-tests, join-number}
 use Rattle.seen.specs.Seen.{seenOf}
-use Rattle.seen.proofs.Bits.{seen-none, seen-small}
+use Rattle.seen.proofs.Bits.{seen-none}
 use Rattle.parts.specs.Parts.{this}
 use Rattle.parts.proofs.Standing.{reach, some-bytes, parts-left}
 use Rattle.arrivals.specs.Arrivals.{index?}

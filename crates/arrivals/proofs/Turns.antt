@@ -1,17 +1,16 @@
 -- The turns of the loop over the parts: the first (`first-met`), one more (`next-met`), and what is answered (`refused-judges`, `met-judges`, `apart-judges`).
-use mathlib.Core.Path.{_≡_, refl, sym, ap, ap₂, _∙_, subst}
+use mathlib.Core.Path.{_≡_, refl, sym, ap, _∙_, subst}
 use Prim.Native.Nat.{ℕ, _+_, _≤_, _<_}
 use native.Mathlib.Omega.{arith}
-use mathlib.Core.Bool.{Bool, true, false, cond, not, _&&_, false≢true}
+use mathlib.Core.Bool.{Bool, true, false, cond, _&&_, false≢true}
 use mathlib.Core.List.{List, []}
-use lib.ListN.{length, getD, drop, replicate}
+use lib.ListN.{length, getD, replicate}
 use lib.Dec.{leb, eqb}
 use borrow.Author.Tests.{leb-true, eqb-true}
 use Rattle.rules.specs.Numbers.{Bytes, upFrom}
 use Rattle.rules.specs.Rules.{every?, payloadStart, refusal, opened}
 use Rattle.rules.proofs.Tests.{and-true, and-intro}
 use Rattle.joining.specs.Join.{partsIn, indexOf, common, joinRefusal}
-use Rattle.joining.proofs.Says.{Together}
 use Rattle.seen.specs.Seen.{seenOf}
 use Rattle.seen.proofs.Bits.{seen-none}
 use Rattle.parts.specs.Parts.{this}
@@ -19,7 +18,7 @@ use Rattle.parts.proofs.Standing.{this-bytes, parts-left}
 use Rattle.arrivals.specs.declared.Judged.{Judged}
 use Rattle.arrivals.specs.Arrivals.{index?, alike?, belongs?, Comparable, Judges}
 use Rattle.arrivals.proofs.Beside.{comparable, alike-if, alike-only}
-use Rattle.arrivals.proofs.Meeting.{Kept, Met, met-none, met-step, this-kept, this-alike, count-is, met-together, together-met, met-apart}
+use Rattle.arrivals.proofs.Meeting.{Met, met-none, met-step, this-kept, this-alike, count-is, met-together, together-met, met-apart}
 
 -- an index that was tested
 pub index-says : (k : ℕ) → index? k ≡ true → (1 ≤ k) × (k < 1024)

@@ -7,7 +7,7 @@ use mathlib.Core.List.{List}
 use lib.ListN.{length, getD, take, drop}
 use Rattle.rules.specs.Numbers.{Bytes, number, startsFrom}
 use Rattle.rules.specs.Template.{template, widthAt, laid, headAt}
-use Rattle.rules.specs.Wave.{orderOf, points, sizeOf, segments, lengthsOf, startsOf, waveOf, decode}
+use Rattle.rules.specs.Wave.{orderOf, points, sizeOf, startsOf, waveOf, decode}
 use Rattle.rules.specs.Rules.{payloadStart, refusal, opened}
 use Rattle.rules.specs.Cut.{changed}
 use Rattle.rules.proofs.Numbers.{length-laid}
@@ -16,11 +16,10 @@ use Rattle.rules.proofs.Slices.{payload-head}
 use Rattle.rules.proofs.Opened.{sized-opened, payload-there, fits-opened, good-opened}
 use Rattle.rules.proofs.Samples.{part-within}
 use Rattle.copies.specs.Copies.{part}
-use Rattle.heads.specs.declared.Changes.{Changes}
 use Rattle.heads.specs.Heads.{changesBy}
 use Rattle.parts.proofs.Tables.{order-there, long-there, stretch-there}
 use Rattle.fronts.specs.declared.Lead.{Lead}
-use Rattle.fronts.specs.Fronts.{leadOf, changesFor, Fronting}
+use Rattle.fronts.specs.Fronts.{changesFor, Fronting}
 
 -- ---- a good part
 

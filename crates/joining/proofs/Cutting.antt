@@ -7,7 +7,7 @@ use mathlib.Core.Bool.{Bool}
 use mathlib.Core.List.{List, [], _∷_, _++_, map, flatten}
 use lib.ListN.{length}
 use lib.Seq.{take-all}
-use lib.Dec.{leb, ltb, eqb}
+use lib.Dec.{leb, ltb}
 use borrow.Author.Tests.{le-leb}
 use Rattle.rules.specs.Numbers.{Bytes}
 use Rattle.rules.specs.Wave.{Wave, sizeOf, segments, points, sparsing, risLength, encode, framed}

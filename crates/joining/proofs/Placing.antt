@@ -1,28 +1,21 @@
 -- For the writer: the joined payload is the first part's descriptor with its fields changed, the user text, and the parts' own bytes by index (`payload-joined`).
 use mathlib.Core.Path.{_≡_, refl, sym, ap, ap₂, _∙_}
-use Prim.Native.Nat.{ℕ, zero, suc, _+_, _-_, _*_, _≤_, _<_}
-use native.Mathlib.Nat.{suc-mul}
+use Prim.Native.Nat.{ℕ, _+_, _-_}
 use native.Mathlib.Omega.{arith}
-use mathlib.Core.Bool.{Bool, true, false}
-use mathlib.Core.List.{List, [], _∷_, _++_, map, flatten, map-map, append-assoc, append-nil, head-eq-of-cons-eq, tail-eq-of-cons-eq}
-use lib.ListN.{length, getD, take, drop, set, length-set, length-map, List·getD-map}
-use lib.Seq.{ext-getD, drop-at, take-append-add, drop-append-add, getD-set-same, getD-set-other}
-use lib.Dec.{eqb}
-use borrow.Author.Tests.{eqb-true, eqb-false}
-use Rattle.rules.specs.Numbers.{Bytes, allBytes, bytes, upFrom, splice}
+use mathlib.Core.List.{List, [], _∷_, _++_, map, flatten, map-map, append-assoc, append-nil}
+use lib.ListN.{length, getD}
+use Rattle.rules.specs.Numbers.{Bytes, allBytes, bytes, upFrom}
 use Rattle.rules.specs.Template.{template, laid}
 use Rattle.rules.specs.Wave.{Wave, orderOf, sizeOf, parts, waveOf, decode, written, encode}
 use Rattle.rules.specs.Rules.{payload, refusal, opened}
-use Rattle.rules.proofs.Rows.{Rows}
 use Rattle.rules.proofs.Waves.{written-decode}
 use Rattle.rules.proofs.Opened.{ruled-opened}
-use Rattle.joining.specs.Join.{indexOf, indexed, partAt, byIndex, joined}
+use Rattle.joining.specs.Join.{partAt, byIndex, joined}
 use Rattle.joining.proofs.Lists.{Every, map-every, every-mapped, Every-upFrom, flatten-append}
-use Rattle.joining.proofs.Index.{Once, Within, every-at-index, indexed-own, indexed-other, within, length-byIndex, byIndex-at}
+use Rattle.joining.proofs.Index.{Within, every-at-index}
 use Rattle.joining.proofs.Says.{Together}
 use Rattle.joining.proofs.Joined.{lead, size-alike}
 use Rattle.joining.proofs.Reading.{wavesOf, wave-at, part-of}
-use Rattle.joining.proofs.Segments.{rows-count}
 
 -- ---- the bytes that the parts give
 

@@ -1,6 +1,6 @@
 -- The trigger times of a joined wave are those of its parts by index (`times-joined`); without TRIGTIME they are in order (`times-none`).
-use mathlib.Core.Path.{_≡_, refl, sym, ap, ap₂, _∙_}
-use Prim.Native.Nat.{ℕ, suc, _≤_}
+use mathlib.Core.Path.{_≡_, refl, sym, ap, _∙_}
+use Prim.Native.Nat.{ℕ, suc}
 use native.Mathlib.Omega.{arith}
 use mathlib.Core.Bool.{true, not, _&&_}
 use mathlib.Core.List.{List, [], _∷_, _++_, map, flatten, map-map}
@@ -13,7 +13,7 @@ use Rattle.rules.proofs.Rows.{Rows}
 use Rattle.joining.specs.Join.{byIndex, joined}
 use Rattle.joining.proofs.Lists.{Every, every-map}
 use Rattle.joining.proofs.Says.{Together}
-use Rattle.joining.proofs.Joined.{Part, lead, trigWide, trig-row}
+use Rattle.joining.proofs.Joined.{lead, trigWide, trig-row}
 use Rattle.joining.proofs.Reading.{wavesOf, all-parts}
 
 -- the TRIGGER_TIME of a wave of one segment, and those of some parts by index

@@ -1,14 +1,13 @@
 -- What writing the joined block needs (`fronting`, `sum`) and leaves (`front-written`), and what a join answers (`judge-refuses`, `block-refuses`, `short-refuses`, `joins`).
 use mathlib.Core.Path.{_≡_, refl, sym, ap, ap₂, _∙_, subst}
-use mathlib.Core.Logic.{_⊎_, inl, inr, _↔_}
+use mathlib.Core.Logic.{_⊎_, inl, inr}
 use Prim.Native.Nat.{ℕ, zero, suc, _+_, _-_, _*_, _≤_, _<_}
 use native.Mathlib.Omega.{arith}
-use mathlib.Core.Bool.{Bool, true, false, cond, false≢true}
-use mathlib.Core.List.{List, [], _∷_, _++_, map, flatten}
-use lib.ListN.{length, getD, take, drop, length-append, length-take}
-use lib.Seq.{take-all}
+use mathlib.Core.Bool.{Bool, true, false, cond}
+use mathlib.Core.List.{List, [], _++_}
+use lib.ListN.{length, getD, take, drop, length-append}
 use lib.Dec.{leb}
-use borrow.Author.Tests.{leb-true, leb-false, le-leb, lt-leb}
+use borrow.Author.Tests.{le-leb, lt-leb}
 use Rattle.rules.specs.Numbers.{Bytes, splice, unlessRefused}
 use Rattle.rules.specs.Template.{template, laid}
 use Rattle.rules.specs.Wave.{segments, risLength, encode, framed}
@@ -22,10 +21,10 @@ use Rattle.copies.specs.Copies.{header}
 use Rattle.copies.proofs.Laws.{then}
 use Rattle.copies.proofs.Head.{length-header}
 use Rattle.heads.specs.Heads.{changesBy}
-use Rattle.joining.specs.Join.{partEnd, partsIn, byIndex, joined, joinedBytes, joining, joinRefusal}
+use Rattle.joining.specs.Join.{partsIn, joined, joinedBytes, joining, joinRefusal}
 use Rattle.joining.proofs.Lists.{every-getD}
-use Rattle.joining.proofs.Parts.{parts-none, parts-next, parts-bytes}
-use Rattle.joining.proofs.Says.{Together, Joins, firstBad, firstBad-none, joined-tests, join-number}
+use Rattle.joining.proofs.Parts.{parts-bytes}
+use Rattle.joining.proofs.Says.{firstBad, firstBad-none, joined-tests, join-number}
 use Rattle.joining.proofs.Reading.{wavesOf}
 use Rattle.joining.proofs.Breaks.{joinedLength, length-block, block-good}
 use Rattle.parts.proofs.Tables.{first-bytes, first-good}

@@ -1,10 +1,10 @@
 -- Whether the joined block keeps the rules, by what the code asks: its length, RISTIME, and the trigger times by index (`block-if`, `block-only`).
 use mathlib.Core.Path.{_≡_, refl, sym, ap, ap₂, _∙_, subst}
 use mathlib.Core.Logic.{_⊎_, inl, inr, ⊎-elim, _↔_}
-use Prim.Native.Nat.{ℕ, suc, _+_, _-_, _*_, _≤_, _<_}
+use Prim.Native.Nat.{ℕ, _-_, _≤_, _<_}
 use native.Mathlib.Omega.{arith}
 use mathlib.Core.Bool.{Bool, true, false, false≢true}
-use mathlib.Core.List.{List, [], map}
+use mathlib.Core.List.{List, []}
 use lib.ListN.{length, getD, length-map}
 use Rattle.rules.specs.Numbers.{Bytes}
 use Rattle.rules.specs.Wave.{orderOf, segments, trigLength, risLength, startsOf}

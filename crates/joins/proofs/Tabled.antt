@@ -1,5 +1,5 @@
 -- The tables by index: each can be placed by the first part's layout (`can-place`), is what the joined block has (`placed`), and is n times as long as the first's (`table-long`).
-use mathlib.Core.Path.{_≡_, refl, sym, ap, ap₂, _∙_, subst}
+use mathlib.Core.Path.{_≡_, refl, sym, ap, _∙_, subst}
 use Prim.Native.Nat.{ℕ, zero, suc, _+_, _-_, _*_, _≤_, _<_}
 use native.Mathlib.Nat.{suc-mul}
 use native.Mathlib.Omega.{arith}
@@ -11,16 +11,14 @@ use lib.Dec.{leb}
 use borrow.Author.Tests.{leb-true, leb-false}
 use Rattle.rules.specs.Numbers.{Bytes, splice, startsFrom}
 use Rattle.rules.specs.Wave.{orderOf, lengthsOf, startsOf}
-use Rattle.rules.specs.Rules.{payloadStart, stated, refusal, opened}
+use Rattle.rules.specs.Rules.{payloadStart, stated, opened}
 use Rattle.rules.proofs.Opened.{good-opened}
-use Rattle.block.specs.Opened.{layoutOf, calibrationOf, acceptedAs, openedAs}
 use Rattle.copies.specs.Copies.{gather}
 use Rattle.copies.proofs.Laws.{splice-none, splice-splice, gather-add, length-part}
 use Rattle.joining.specs.Join.{partEnd, partsIn, byIndex}
 use Rattle.joining.proofs.Lists.{Every, every-map, no-elements}
 use Rattle.joining.proofs.Parts.{parts-none, parts-next}
 use Rattle.joining.proofs.Index.{length-byIndex, every-byIndex}
-use Rattle.joining.proofs.Placing.{stretch}
 use Rattle.parts.specs.Parts.{Placeable, rowOf, rowsOf}
 use Rattle.parts.proofs.Tables.{first-bytes, first-good, first-ends, placeable, table-rows, stretch-ends}
 use Rattle.fronts.specs.declared.Lead.{Lead}

@@ -1,15 +1,13 @@
 -- The front and the tables make the joined block (`whole`).
-use mathlib.Core.Path.{_≡_, refl, sym, ap, ap₂, _∙_, subst}
-use mathlib.Core.Logic.{_⊎_, inl, inr, ⊎-elim}
-use Prim.Native.Nat.{ℕ, zero, suc, _+_, _*_, _/_, _-_, _≤_, max}
+use mathlib.Core.Path.{_≡_, refl, sym, ap, ap₂, _∙_}
+use mathlib.Core.Logic.{_⊎_, inl, inr}
+use Prim.Native.Nat.{ℕ, suc, _+_, _*_, _/_, _-_, _≤_, max}
 use native.Mathlib.Omega.{arith}
-use mathlib.Core.Bool.{false}
-use mathlib.Core.List.{List, [], _∷_, _++_, map, flatten, append-assoc, append-nil}
+use mathlib.Core.List.{List, [], _++_, map, flatten, append-assoc, append-nil}
 use lib.ListN.{length, getD, length-append}
-use lib.Dec.{eqb}
 use Rattle.rules.specs.Numbers.{Bytes, upFrom}
 use Rattle.rules.specs.Template.{template, laid}
-use Rattle.rules.specs.Wave.{Wave, orderOf, sizeOf, points, encode, framed}
+use Rattle.rules.specs.Wave.{Wave, orderOf, sizeOf, points, framed}
 use Rattle.rules.specs.Rules.{opened}
 use Rattle.rules.specs.Cut.{changed}
 use Rattle.rules.proofs.Rows.{total-rows}

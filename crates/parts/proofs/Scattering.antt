@@ -1,5 +1,5 @@
 -- Rows of the parts whose index is behind `skip`, each put at its index in the order in which the parts came: at the end they stand by index (`scattered-all`).
-use mathlib.Core.Path.{_≡_, refl, sym, ap, _∙_, subst}
+use mathlib.Core.Path.{_≡_, refl, sym, ap, _∙_}
 use Prim.Native.Nat.{ℕ, zero, suc, _+_, _-_, _*_, _≤_, _<_}
 use native.Mathlib.Nat.{suc-mul}
 use native.Mathlib.Omega.{arith}
@@ -8,12 +8,11 @@ use mathlib.Core.List.{List, [], _∷_, _++_, map, flatten, head-eq-of-cons-eq, 
 use lib.ListN.{length, getD, take, drop, set, length-set, length-map, length-take, length-drop, List·getD-map}
 use lib.Seq.{ext-getD, drop-at, getD-set-same, getD-set-other, getD-take, getD-drop}
 use lib.Dec.{ltb, eqb}
-use borrow.Author.Tests.{ltb-true, ltb-false, lt-ltb, eqb-true, eqb-false}
+use borrow.Author.Tests.{ltb-true, lt-ltb, eqb-true, eqb-false}
 use Rattle.rules.specs.Numbers.{splice}
 use Rattle.rules.proofs.Rows.{Rows}
 use Rattle.copies.proofs.Laws.{splice-behind}
 use Rattle.joining.specs.Join.{indexOf, indexed, partAt, byIndex}
-use Rattle.joining.proofs.Lists.{Every}
 use Rattle.joining.proofs.Index.{Once, indexed-own, indexed-other, length-byIndex, byIndex-at}
 use Rattle.joining.proofs.Segments.{rows-count}
 

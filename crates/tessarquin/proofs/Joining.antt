@@ -7,10 +7,10 @@ use native.Mathlib.Omega.{arith}
 use lib.ListN.{length}
 use Rattle.rules.specs.Numbers.{allBytes, splice}
 use Rattle.rules.specs.Wave.{encode}
-use Rattle.rules.specs.Rules.{all, opened}
+use Rattle.rules.specs.Rules.{all}
 use Rattle.rules.specs.Cut.{orElse}
 use Rattle.rules.proofs.Frames.{length-framed}
-use Rattle.joining.specs.Join.{partsIn, byIndex, joined, joinedBytes, joining, joinRefusal}
+use Rattle.joining.specs.Join.{partsIn, joined, joinedBytes, joining, joinRefusal}
 use Rattle.joining.proofs.Says.{firstBad, join-room}
 use Rattle.joining.proofs.Reading.{wavesOf}
 use Rattle.joins.specs.declared.Joined.{Joined}

@@ -1,5 +1,4 @@
 -- No part, a bad first one, or those behind it.
-use mathlib.Core.Path.{_≡_}
 use Prim.Native.Nat.{_<_}
 use native.Mathlib.Omega.{arith}
 use mathlib.Core.Bool.{true}

@@ -1,17 +1,16 @@
 -- The first part is met, then one more at each turn; a bad one ends the loop.
 use mathlib.Core.Path.{_≡_, refl, sym, ap, _∙_}
-use Prim.Native.Nat.{ℕ, _+_, _-_, _≤_, _<_}
+use Prim.Native.Nat.{_+_, _-_, _≤_}
 use native.Mathlib.Omega.{arith}
-use mathlib.Core.Bool.{true, _&&_}
-use mathlib.Core.List.{List, []}
+use mathlib.Core.Bool.{_&&_}
+use mathlib.Core.List.{[]}
 use lib.ListN.{length, getD}
 use borrow.Author.Tests.{not-true, not-false}
 use borrow.Author.Needs.{needs}
 use Rattle.rules.specs.Numbers.{Bytes}
-use Rattle.rules.specs.Rules.{payloadStart, refusal, opened}
+use Rattle.rules.specs.Rules.{payloadStart, refusal}
 use Rattle.rules.proofs.Numbers.{below-index}
 use Rattle.joining.specs.Join.{partsIn, indexOf}
-use Rattle.seen.specs.Seen.{seenOf}
 use Rattle.seen.proofs.Bits.{seen-none}
 use Rattle.parts.specs.declared.Part.{Part}
 use Rattle.parts.specs.Parts.{this, answer}

@@ -1,7 +1,7 @@
 -- The head follows the header, and the text the head.
 use mathlib.Core.Path.{ap₂, _∙_}
 use mathlib.Core.List.{List}
-use Prim.Native.Nat.{ℕ, _+_}
+use Prim.Native.Nat.{ℕ}
 use native.Mathlib.Omega.{arith}
 use borrow.Author.Needs.{needs}
 use Rattle.rules.specs.Numbers.{Bytes, splice}

@@ -1,11 +1,10 @@
 -- The loop places one row more at each turn.
 use mathlib.Core.Path.{_≡_, refl, sym, ap, _∙_, subst}
-use Prim.Native.Nat.{ℕ, _+_, _-_, _*_, _≤_, _<_}
+use Prim.Native.Nat.{ℕ, _+_, _-_, _≤_, _<_}
 use native.Mathlib.Omega.{arith}
 use mathlib.Core.List.{List}
-use lib.ListN.{length, take, drop}
+use lib.ListN.{length}
 use borrow.Author.Needs.{needs}
-use Rattle.rules.specs.Rules.{payloadStart}
 use Rattle.copies.specs.Copies.{part}
 use Rattle.joining.specs.Join.{indexOf}
 use Rattle.parts.specs.Parts.{this, Sound, placed}

@@ -1,8 +1,6 @@
 -- The times of the window, gathered by index and compared.
-use mathlib.Core.Path.{_≡_, refl, sym, ap, _∙_}
-use Prim.Native.Nat.{ℕ, _+_, _*_, _≤_}
+use mathlib.Core.Path.{ap, _∙_}
 use native.Mathlib.Omega.{arith}
-use lib.ListN.{length}
 use borrow.Author.Needs.{needs}
 use Rattle.rules.specs.Rules.{ascending}
 use Rattle.arrivals.proofs.Windows.{window-finite, window-times}

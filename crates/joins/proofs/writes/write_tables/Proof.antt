@@ -1,6 +1,6 @@
 -- Each table stands behind the one before.
-use mathlib.Core.Path.{_≡_, refl, sym, ap, ap₂, _∙_}
-use Prim.Native.Nat.{ℕ, _+_, _-_, _*_, _≤_, _<_}
+use mathlib.Core.Path.{_≡_, refl, ap, ap₂, _∙_}
+use Prim.Native.Nat.{ℕ, _+_, _-_, _*_, _≤_}
 use native.Mathlib.Omega.{arith}
 use mathlib.Core.List.{List}
 use lib.ListN.{length, getD}
@@ -9,7 +9,7 @@ use Rattle.rules.proofs.Numbers.{below-index}
 use Rattle.copies.proofs.Laws.{splice-none}
 use borrow.Author.Needs.{needs}
 use Rattle.parts.specs.Parts.{rowsOf}
-use Rattle.joins.specs.Steps.{startBy, tableOf, tablesTo}
+use Rattle.joins.specs.Steps.{tableOf, tablesTo}
 use Rattle.joins.proofs.Tabled.{start-within, first-within, can-place, row-ends, placed, first-start, next-start, table-room, next-table}
 use Rattle.joins.proofs.writes.write_tables.Statement.{statement}
 use Rattle.joins.proofs.writes.write_tables.Tie as tie
