@@ -20,7 +20,7 @@ use Rattle.joining.specs.Join.{partsIn, byIndex}
 use Rattle.joining.proofs.Lists.{Every, every-map, every-mapped, every-getD, getD-upFrom}
 use Rattle.joining.proofs.Index.{length-byIndex, every-byIndex}
 use Rattle.parts.specs.Parts.{rowOf, rowsOf}
-use Rattle.arrivals.specs.Arrivals.{timeAt, timesAt, Timed}
+use Rattle.arrivals.specs.Arrivals.{partTime, timesAt, Timed}
 
 -- ---- lists that rise
 
@@ -116,7 +116,7 @@ module _ (order long trig skip count : ℕ) (s : List ℕ) (t : Timed order long
       (every-byIndex (λ (p : List ℕ). length (rowOf trig 8 p) ≡ 8) (partsIn s) (t .placeable .once)
       (every-map (λ p q. length-part p (payloadStart p + trig) 8 (omega (arith, q .whole, t .inside))) (partsIn s) (t .placeable .sound)))))
 
-  time-in : (j : ℕ) → j < count → timeBy order 0 8 w j ≡ timeAt order trig (getD (byIndex (partsIn s)) (skip + j) [])
+  time-in : (j : ℕ) → j < count → timeBy order 0 8 w j ≡ partTime order trig (getD (byIndex (partsIn s)) (skip + j) [])
   unfolding window
   time-in j l =
       let rest : List ℕ = drop (0 + length (rowsOf trig 8 skip count s)) (replicate 256 0) in
@@ -124,21 +124,21 @@ module _ (order long trig skip count : ℕ) (s : List ℕ) (t : Timed order long
       ap (λ (x : List ℕ). number order (take 8 (drop (0 + j * 8) x))) e ∙ ap (λ (n : ℕ). number order (take 8 (drop n (rowsOf trig 8 skip count s ++ rest)))) z
       ∙ ap (number order) (row-in 8 (map (rowOf trig 8) window) rest (rowOf trig 8 []) j rows-long (omega (arith, length-map window (rowOf trig 8), window-many))
       ∙ List·getD-map (rowOf trig 8) window j [])
-      ∙ ap (timeAt order trig) (getD-take count (drop skip (byIndex (partsIn s))) j [] l ∙ getD-drop skip (byIndex (partsIn s)) j [])
+      ∙ ap (partTime order trig) (getD-take count (drop skip (byIndex (partsIn s))) j [] l ∙ getD-drop skip (byIndex (partsIn s)) j [])
 
   pub window-finite : (j : ℕ) → j < count → finite64 (timeBy order 0 8 w j) ≡ true
   window-finite j l =
       ap finite64 (time-in j l)
-      ∙ every-getD (λ p. finite64 (timeAt order trig p) ≡ true) (byIndex (partsIn s)) (skip + j) [] (omega (arith, length-byIndex (partsIn s)))
-      (every-byIndex (λ p. finite64 (timeAt order trig p) ≡ true) (partsIn s) (t .placeable .once) (t .finite))
+      ∙ every-getD (λ p. finite64 (partTime order trig p) ≡ true) (byIndex (partsIn s)) (skip + j) [] (omega (arith, length-byIndex (partsIn s)))
+      (every-byIndex (λ p. finite64 (partTime order trig p) ≡ true) (partsIn s) (t .placeable .once) (t .finite))
 
   pub window-times : timesBy order 0 8 count w ≡ take count (drop skip (timesAt order trig s))
   window-times =
-      let all : length (timesAt order trig s) ≡ length (partsIn s) = length-map (byIndex (partsIn s)) (timeAt order trig) ∙ length-byIndex (partsIn s) in
+      let all : length (timesAt order trig s) ≡ length (partsIn s) = length-map (byIndex (partsIn s)) (partTime order trig) ∙ length-byIndex (partsIn s) in
       let a : length (timesBy order 0 8 count w) ≡ count = length-map (upFrom 0 count) (timeBy order 0 8 w) ∙ length-upFrom 0 count in
       let b : length (take count (drop skip (timesAt order trig s))) ≡ count = omega (arith, length-take count (drop skip (timesAt order trig s)), length-drop skip (timesAt order trig s)) in
-      ext-getD (timeAt order trig []) (timesBy order 0 8 count w) (take count (drop skip (timesAt order trig s))) (a ∙ sym b) (λ j l.
+      ext-getD (partTime order trig []) (timesBy order 0 8 count w) (take count (drop skip (timesAt order trig s))) (a ∙ sym b) (λ j l.
       let k : 0 + j ≡ j = omega arith in
-      getD-upFrom (timeBy order 0 8 w) 0 count j (timeAt order trig []) (omega arith) ∙ ap (timeBy order 0 8 w) k ∙ time-in j (omega arith)
-      ∙ sym (getD-take count (drop skip (timesAt order trig s)) j (timeAt order trig []) (omega arith) ∙ getD-drop skip (timesAt order trig s) j (timeAt order trig [])
-      ∙ List·getD-map (timeAt order trig) (byIndex (partsIn s)) (skip + j) []))
+      getD-upFrom (timeBy order 0 8 w) 0 count j (partTime order trig []) (omega arith) ∙ ap (timeBy order 0 8 w) k ∙ time-in j (omega arith)
+      ∙ sym (getD-take count (drop skip (timesAt order trig s)) j (partTime order trig []) (omega arith) ∙ getD-drop skip (timesAt order trig s) j (partTime order trig [])
+      ∙ List·getD-map (partTime order trig) (byIndex (partsIn s)) (skip + j) []))

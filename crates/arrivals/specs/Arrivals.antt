@@ -34,17 +34,17 @@ pub record Comparable (s : List ℕ) (lead start text : ℕ) : Type 0 where
   pub behind : same (part s lead 140) (part s start 140) ≡ true → same (part s (lead + 144) 202) (part s (start + 144) 202) ≡ true → start + 346 + text ≤ length s
 
 -- the TRIGGER_TIME of a part, as it is read where TRIGTIME starts at `trig` in the payload; and those of the parts of s by index
-abbrev pub timeAt : ℕ → ℕ → List ℕ → ℕ
-timeAt order trig p = number order (rowOf trig 8 p)
+abbrev pub partTime : ℕ → ℕ → List ℕ → ℕ
+partTime order trig p = number order (rowOf trig 8 p)
 
 abbrev pub timesAt : ℕ → ℕ → List ℕ → List ℕ
-timesAt order trig s = map (timeAt order trig) (byIndex (partsIn s))
+timesAt order trig s = map (partTime order trig) (byIndex (partsIn s))
 
 -- parts with a trigger time each, and all finite
 pub record Timed (order long trig : ℕ) (s : List ℕ) : Type 0 where
   pub placeable : Placeable order long s
   pub inside : trig + 8 ≤ long
-  pub finite : Every (λ p. finite64 (timeAt order trig p) ≡ true) (partsIn s)
+  pub finite : Every (λ p. finite64 (partTime order trig p) ≡ true) (partsIn s)
 
 -- what judging the parts of s says: the join's number, which is not 13; or that they belong together, how many they are, and where the first ends
 pub record Judges (s : List ℕ) (r : Judged) : Type 0 where

@@ -16,7 +16,7 @@ use Rattle.joining.proofs.Index.{length-byIndex, every-byIndex}
 use Rattle.joining.proofs.Timing.{waveTime, timesOf, times-none}
 use Rattle.joining.proofs.Breaks.{joinedLength, leads, block-good}
 use Rattle.parts.proofs.Tables.{Fellow, fellows, first-bytes, first-good, heads, starts, trig-long, time-there, time-finite}
-use Rattle.arrivals.specs.Arrivals.{timeAt, timesAt, Timed}
+use Rattle.arrivals.specs.Arrivals.{partTime, timesAt, Timed}
 use Rattle.arrivals.proofs.Windows.{one-rises}
 use Rattle.fronts.specs.declared.Lead.{Lead}
 use Rattle.joins.specs.Steps.{Gathered, startBy, totalBy}
@@ -38,25 +38,25 @@ module _ (s : List ℕ) (b : Bytes s) (lead : Lead) (n end : ℕ) (g : Gathered 
   -- the times, where TRIGTIME is there
   module _ (there : 0 < getD (lead .lengths) 3 0) where
     -- a part's time, as it is read by the first's layout
-    read : (p : List ℕ) → Fellow firstPart p × (segments (opened p .head) ≡ 1) → (timeAt (lead .order) (startBy lead 3) p ≡ waveTime (opened p)) × (finite64 (waveTime (opened p)) ≡ true)
+    read : (p : List ℕ) → Fellow firstPart p × (segments (opened p .head) ≡ 1) → (partTime (lead .order) (startBy lead 3) p ≡ waveTime (opened p)) × (finite64 (waveTime (opened p)) ≡ true)
     unfolding startsOf
     read p f =
         let t : 0 < trigLength (opened p .head) = subst (λ (x : ℕ). 0 < x) (trig-is ∙ sym (heads s b (g .together) p (f .0) 48 refl)) there in
         let order : lead .order ≡ orderOf (opened p .head) = ap (λ (x : Lead). x .order) (g .leads) ∙ sym (heads s b (g .together) p (f .0) 34 refl) in
         let from : startBy lead 3 ≡ getD (startsOf (opened p .head)) 3 0 = ap (λ (x : Lead). startBy x 3) (g .leads) ∙ sym (ap (λ (l : List ℕ). getD l 3 0) (starts s b (g .together) p (f .0))) in (
-          ap₂ {C = ℕ} (λ x y. timeAt x y p) order from ∙ sym (time-there p (f .0 .bytes) (f .0 .good) (f .1) t),
+          ap₂ {C = ℕ} (λ x y. partTime x y p) order from ∙ sym (time-there p (f .0 .bytes) (f .0 .good) (f .1) t),
           time-finite p (f .0 .bytes) (f .0 .good) (f .1) t,
         )
 
-    reads : Every (λ p. (timeAt (lead .order) (startBy lead 3) p ≡ waveTime (opened p)) × (finite64 (waveTime (opened p)) ≡ true)) (partsIn s)
+    reads : Every (λ p. (partTime (lead .order) (startBy lead 3) p ≡ waveTime (opened p)) × (finite64 (waveTime (opened p)) ≡ true)) (partsIn s)
     reads =
-        every-both (Fellow firstPart) (λ p. segments (opened p .head) ≡ 1) (λ p. (timeAt (lead .order) (startBy lead 3) p ≡ waveTime (opened p)) × (finite64 (waveTime (opened p)) ≡ true))
+        every-both (Fellow firstPart) (λ p. segments (opened p .head) ≡ 1) (λ p. (partTime (lead .order) (startBy lead 3) p ≡ waveTime (opened p)) × (finite64 (waveTime (opened p)) ≡ true))
         (λ p x y. read p (x, y)) (partsIn s) (fellows s b (g .together)) (g .together .alone)
 
     pub times-are : timesAt (lead .order) (startBy lead 3) s ≡ timesOf (partsIn s)
     times-are =
-        map-every (timeAt (lead .order) (startBy lead 3)) (λ p. waveTime (opened p)) (byIndex (partsIn s))
-        (every-byIndex (λ p. timeAt (lead .order) (startBy lead 3) p ≡ waveTime (opened p)) (partsIn s) (g .together .once) (every-map (λ p x. x .0) (partsIn s) reads))
+        map-every (partTime (lead .order) (startBy lead 3)) (λ p. waveTime (opened p)) (byIndex (partsIn s))
+        (every-byIndex (λ p. partTime (lead .order) (startBy lead 3) p ≡ waveTime (opened p)) (partsIn s) (g .together .once) (every-map (λ p x. x .0) (partsIn s) reads))
 
     pub timed : 8 ≤ getD (lead .lengths) 3 0 → Timed (lead .order) (end - lead .start) (startBy lead 3) s
     timed l = record {

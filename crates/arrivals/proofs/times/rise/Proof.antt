@@ -8,7 +8,7 @@ use borrow.Author.Needs.{needs}
 use Rattle.rules.specs.Rules.{ascending}
 use Rattle.joining.specs.Join.{partsIn, byIndex}
 use Rattle.joining.proofs.Index.{length-byIndex}
-use Rattle.arrivals.specs.Arrivals.{timeAt, timesAt}
+use Rattle.arrivals.specs.Arrivals.{partTime, timesAt}
 use Rattle.arrivals.proofs.Windows.{past-window, window-falls, last-window}
 use Rattle.arrivals.proofs.times.rise.Statement.{statement}
 use Rattle.arrivals.proofs.times.rise.Tie as tie
@@ -23,7 +23,7 @@ abbrev μ-loop : tie.MeasureT-loop
 many : (c : tie.After-shared-slice-known Inv-loop μ-loop) → let a = c .before .args in a .count ≡ length (timesAt (a .order) (a .trig) (a .parts .now))
 many c =
     let a = c .before .args in
-    c .before .pre .1 .0 ∙ sym (length-map (byIndex (partsIn (a .parts .now))) (timeAt (a .order) (a .trig)) ∙ length-byIndex (partsIn (a .parts .now)))
+    c .before .pre .1 .0 ∙ sym (length-map (byIndex (partsIn (a .parts .now))) (partTime (a .order) (a .trig)) ∙ length-byIndex (partsIn (a .parts .now)))
 
 loop-holds : tie.Need-loop-holds Inv-loop μ-loop
 loop-holds c = (omega arith, refl)
