@@ -3,3 +3,4 @@ pub mod Order
 pub mod Segments
 pub mod Back
 pub mod Circle
+pub mod Chains

@@ -1,1 +1,2 @@
-// Request [3], segments put where they belong, as the contract of `joins::join` says it across calls: theorems (proofs/). No code.
+// Requests [3], segments put where they belong, and [10], however many times it was thinned, as the contracts of `joins::join`, `cuts::cut` and
+// `cuts::combined` say them across calls: theorems (proofs/). No code.

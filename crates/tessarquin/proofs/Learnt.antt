@@ -1,5 +1,5 @@
--- What a caller learns of a call for C, as the checker has it from the `ensures` of the call: `OpenCall`, `PointCall`, `FillCall`, `CutCall`, `JoinCall`,
--- `LayoutCall`, `TextCall`, `LabelCall`. A theorem over these speaks of the contract itself. `holding b s` is the slice b with the bytes s in it.
+-- What a caller learns of a call for C, as the checker has it from the `ensures` of the call: `OpenCall`, `PointCall`, `FillCall`, `CutCall`,
+-- `CombinedCall`, `JoinCall`, `LayoutCall`, `TextCall`, `LabelCall`. A theorem over these speaks of the contract itself. `holding b s` is the slice b with the bytes s in it.
 use mathlib.Core.List.{List}
 use Prim.Native.Nat.{ℕ}
 use contract.Lifetimes.{Lfts}
@@ -9,6 +9,7 @@ use Rattle.tessarquin.proofs.tessarquin_open.Reads as open-reads
 use Rattle.tessarquin.proofs.tessarquin_point.Reads as point-reads
 use Rattle.tessarquin.proofs.tessarquin_fill.Reads as fill-reads
 use Rattle.tessarquin.proofs.tessarquin_cut.Reads as cut-reads
+use Rattle.tessarquin.proofs.combining.tessarquin_combined.Reads as combined-reads
 use Rattle.tessarquin.proofs.joined.tessarquin_join.Reads as join-reads
 use Rattle.tessarquin.proofs.parts.tessarquin_layout.Reads as layout-reads
 use Rattle.tessarquin.proofs.parts.tessarquin_user_text.Reads as text-reads
@@ -34,6 +35,13 @@ CutCall s c q out answer m left second =
     (κs : Lfts 3) × (b : RefT (List ℕ)) × (o : RefT (List ℕ)) × (a : RefT (List ℕ))
     × cut-reads.Learnt κs (holding b s, (c .sp, (c .np, (c .fp, (c .sn, (q, (holding o out, (holding a answer, tt)))))))) m
     (holding b s, (c .sp, (c .np, (c .fp, (c .sn, (q, (holding o left, (holding a second, tt))))))))
+
+-- for the cut a and then the cut b, which answered c, and lent a slice for the answer, `tessarquin_combined` returned m and left these bytes in the slice
+abbrev pub CombinedCall : Setup → Setup → ℕ → List ℕ → ℕ → List ℕ → Type 0
+CombinedCall a b c answer m left =
+    (κs : Lfts 1) × (r : RefT (List ℕ))
+    × combined-reads.Learnt κs (a .sp, (a .np, (a .fp, (a .sn, (b .sp, (b .np, (b .fp, (b .sn, (c, (holding r answer, tt)))))))))) m
+    (a .sp, (a .np, (a .fp, (a .sn, (b .sp, (b .np, (b .fp, (b .sn, (c, (holding r left, tt))))))))))
 
 -- lent parts of the bytes s, a slice for the block that is joined and one for n and its length, `tessarquin_join` returned m and left these bytes in the two
 abbrev pub JoinCall : List ℕ → List ℕ → List ℕ → ℕ → List ℕ → List ℕ → Type 0

@@ -13,14 +13,14 @@ use Rattle.rules.specs.Numbers.{startsFrom, allBytes, splice}
 use Rattle.rules.specs.Wave.{orderOf, segments, points, firstPoint, sparsing, segmentIndex, subarrayCount, lengthsOf, startsOf}
 use Rattle.rules.specs.Rules.{payloadStart, opened}
 use Rattle.rules.specs.Points.{value, time, mark, markNumber}
-use Rattle.rules.specs.Cut.{orElse}
+use Rattle.rules.specs.Cut.{Setup, orElse, combined}
 use Rattle.rules.proofs.Numbers.{length-allBytes}
 use Rattle.rules.proofs.Tests.{orElse-none}
 use Rattle.block.specs.Opened.{arraysOf}
 use Rattle.block.specs.declared.Span.{Span}
 use Rattle.block.specs.Texts.{Stands, traceLabel, upToZero, orOther}
 use Rattle.block.proofs.Parts.{span-length, span-none, span-some}
-use Rattle.tessarquin.specs.Calls.{orRoom, leftBy, openBytes, pointBytes, layoutBytes, labelBytes}
+use Rattle.tessarquin.specs.Calls.{orRoom, leftBy, openBytes, pointBytes, setupNumbers, combinedBytes, layoutBytes, labelBytes}
 
 -- ---- how long the answers are
 
@@ -33,6 +33,9 @@ pair-length x y = length-allBytes 0 8 (x ∷ y ∷ [])
 pub point-length : (s : List ℕ) (a n k : ℕ) → length (pointBytes s a n k) ≡ 24
 point-length s a n k =
     length-allBytes 0 8 (toBits binary64 (value (opened s) a n k) ∷ toBits binary64 (time (opened s) n k) ∷ markNumber (mark (opened s) a n k) ∷ [])
+
+pub combined-length : (a b : Setup) (c : ℕ) → length (combinedBytes a b c) ≡ 32
+combined-length a b c = length-allBytes 0 8 (setupNumbers (combined a b c))
 
 pub layout-length : (s : List ℕ) → length (layoutBytes s) ≡ 200
 unfolding startsOf startsFrom

@@ -9,7 +9,7 @@ use Rattle.rules.specs.Numbers.{allBytes, upFrom, splice}
 use Rattle.rules.specs.Wave.{orderOf, segments, points, firstPoint, sparsing, segmentIndex, subarrayCount, lengthsOf, startsOf}
 use Rattle.rules.specs.Rules.{payloadStart, refusal, opened}
 use Rattle.rules.specs.Points.{value, time, mark, markNumber, markCount, pointRefusal, walkRefusal}
-use Rattle.rules.specs.Cut.{Setup, orElse, count, cutBytes, cutRefusal}
+use Rattle.rules.specs.Cut.{Setup, orElse, count, cutBytes, cutRefusal, combined, combinedRefusal}
 use Rattle.joining.specs.Join.{partsIn, joinedBytes, joinRefusal}
 use Rattle.block.specs.Opened.{arraysOf}
 use Rattle.block.specs.Texts.{textOf, textStart, traceLabel, upToZero, orOther}
@@ -76,6 +76,20 @@ cutLeft s c q out second = leftBy (cutNumber s c q (length out) second) (cutByte
 
 unfoldable pub cutAnswerLeft : List ℕ → Setup → ℕ → ℕ → List ℕ → List ℕ
 cutAnswerLeft s c q room answer = leftBy (cutNumber s c q room (length answer)) (cutAnswer s c q) answer
+
+-- ---- the one cut for the cut a, and then the cut b, which answered c: SP, NP, FP and SN
+
+abbrev pub setupNumbers : Setup → List ℕ
+setupNumbers c = c .sp ∷ c .np ∷ c .fp ∷ c .sn ∷ []
+
+abbrev pub combinedBytes : Setup → Setup → ℕ → List ℕ
+combinedBytes a b c = allBytes 0 8 (setupNumbers (combined a b c))
+
+unfoldable pub combinedNumber : Setup → Setup → ℕ → ℕ → ℕ
+combinedNumber a b c room = orRoom (combinedRefusal a b) (combinedBytes a b c) room
+
+unfoldable pub combinedLeft : Setup → Setup → ℕ → List ℕ → List ℕ
+combinedLeft a b c answer = leftBy (combinedNumber a b c (length answer)) (combinedBytes a b c) answer
 
 -- ---- a join of the parts s: the block to one slice, n and the block's length to the other
 

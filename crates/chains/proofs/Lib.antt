@@ -1,0 +1,3 @@
+pub mod Groups
+pub mod Alone
+pub mod Chain

@@ -1,0 +1,1 @@
+// Request [10], however many times it was thinned, as definitions (specs/) and their laws (proofs/). No code.
