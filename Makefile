@@ -67,7 +67,7 @@ target/host/%: host/tests/%.c host/tests/blocks.h include/tessarquin.h | need-c
 
 # The program that README prints, the lines that the header prints, the calls at the end of a page, the header's readers,
 # the host program (faults.c says which calls go wrong in a second copy of it), and the independent reader.
-checked: WRAPPED := open write fsync close rename renameat2 tessarquin_point tessarquin_fill tessarquin_cut tessarquin_join
+checked: WRAPPED := open write fsync close rename renameat2 tessarquin_point tessarquin_fill tessarquin_cut tessarquin_combined tessarquin_join
 checked: need-tests host target/host/made target/host/sample target/host/table target/host/fields
 	@awk '/^```c$$/ { on = 1; next } /^```$$/ { on = 0 } on' README.md >target/host/first.c
 	@$(CC) $(CFLAGS) target/host/first.c $(ARCHIVE) -o target/host/first
@@ -76,6 +76,8 @@ checked: need-tests host target/host/made target/host/sample target/host/table t
 	@$(CXX) -std=c++17 -Wall -Wextra -Werror -Iinclude -Itarget/host -fsyntax-only -x c++ target/host/first.c host/tests/printed.c
 	@$(CC) $(CFLAGS) host/tests/calls.c $(ARCHIVE) -o target/host/calls
 	@$(RUN) target/host/calls
+	@$(CC) $(CFLAGS) host/tests/chains.c $(ARCHIVE) -o target/host/chains
+	@$(RUN) target/host/chains
 	@$(CC) $(CFLAGS) host/tests/joins.c $(ARCHIVE) -o target/host/joins
 	@$(RUN) target/host/joins
 	@$(RUN) target/host/fields

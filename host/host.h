@@ -151,7 +151,7 @@ int differ(const struct opened *one, const struct opened *other);
 /* The fields of `one` that are others than those of `other`, both as they are there, and the user text. */
 void found_different(FILE *to, const struct opened *one, const struct opened *other);
 
-/* ---- show.c, rail.c, points.c, join.c: the commands */
+/* ---- show.c, rail.c, points.c, join.c, combined.c: the commands */
 
 /* Numbers that were worked out have so many digits. */
 void show(const char *name, int digits);
@@ -171,6 +171,19 @@ void print_points(const char *name, uint32_t array, const uint32_t *segment, str
 /* The segments in these files, in whatever order, as one block to `to`. */
 void join(const char *to, int replace, const char *const *names, size_t count);
 
+/* The numbers of WAVEFORM_SETUP; and a cut that was made by them, with the c that it answered. */
+struct setup {
+    uint32_t sp, np, fp, sn;
+};
+
+struct made {
+    struct setup by;
+    uint32_t kept;
+};
+
+/* Prints the numbers of the one cut that stands for these, each of what the one before it wrote. */
+void print_combined(const struct made *cuts, size_t count);
+
 /* ---- words.c: texts and whole numbers for a person */
 
 /* A text of a block. Printable ASCII and valid UTF-8 are written as they are, and every other byte, the backslash too,
@@ -185,6 +198,9 @@ const char *grouped(int64_t n);
 
 /* So many of something: 1 point, 2 points. Each of the last four answers stays. */
 const char *counted(int64_t n, const char *what);
+
+/* Which one: 2nd, 12th, 1,021st. The last answer stays. */
+const char *ordinal(uint32_t n);
 
 /* The name of an enum's number, as the template has it, or the number. */
 const char *record_type(int n);

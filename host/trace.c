@@ -15,6 +15,7 @@ static const char help[] =
     "    trace points [--csv] [--digits N] FILE [ARRAY [SEGMENT]]    its points, in volts and seconds\n"
     "    trace cut [-f] FILE OUT SP NP FP SN hi|lo                   a smaller file\n"
     "    trace join [-f] OUT FILE..                                  one file of segments that were fetched one by one\n"
+    "    trace combined SP NP FP SN C [SP NP FP SN C]..              the one cut that stands for cuts of cuts\n"
     "    trace --help | --version\n"
     "\n"
     "FILE may be - for standard input. Words before the # of a block, as an oscilloscope answers, are skipped, where the #\n"
@@ -40,7 +41,12 @@ static const char help[] =
     "else in the descriptors, and the user text, has to be the same. Which file has which segment is told on standard error;\n"
     "where they do not fit, all that stands in the way. What is said of OUT at cut holds here too: it is never a FILE.\n"
     "\n"
-    "It ends with 0; 1 where the file or what was asked of it is refused; 2 where it was called wrongly; 3 where a file or\n"
+    "combined takes the cuts that were made one after another, each of what the one before it wrote: SP NP FP SN of each,\n"
+    "and C, how many points of each segment it kept, as it told. It prints SP NP FP SN of the one cut of the first FILE that\n"
+    "writes the same bytes as the last of them, in its byte order: trace cut FILE OUT $(trace combined ..) hi. The same in\n"
+    "words is told on standard error. Cuts that cannot have followed each other, or cannot have kept C, are refused.\n"
+    "\n"
+    "It ends with 0; 1 where the file or what was asked is refused; 2 where it was called wrongly; 3 where a file or\n"
     "the memory failed, or OUT is in the way. What went wrong stands in one line on standard error, the last where there\n"
     "are more.\n";
 
@@ -81,6 +87,15 @@ static uint32_t number(const char *word)
     if (!isdigit((unsigned char)*word) || *end || errno || n > UINT32_MAX)
         fail(USAGE, "%s is not a number from 0 to 4294967295", *word ? word : "an empty word");
     return (uint32_t)n;
+}
+
+/* Also with commas, as the program tells it: 16,777,216. */
+static uint32_t told_number(const char *word)
+{
+    int64_t n = 0;
+    for (const char *c = word; n < UINT32_MAX && (isdigit((unsigned char)*c) || *c == ','); c++)
+        n = *c == ',' ? n : 10 * n + (*c - '0');
+    return n <= UINT32_MAX && is(word, grouped(n)) ? (uint32_t)n : number(word);
 }
 
 static int digits(const char *word)
@@ -165,11 +180,27 @@ static void run_join(const struct line *line)
     join(line->words[0], line->replace, line->words + 1, (size_t)line->count - 1);
 }
 
+static void run_combined(const struct line *line)
+{
+    size_t count = (size_t)line->count / 5;
+    if (line->count % 5 != 0)
+        fail(USAGE, "combined takes SP NP FP SN C for each cut, and a count of %d is no multiple of five; trace --help tells how it is called", line->count);
+    struct made *cuts = memory(count * sizeof *cuts);
+    for (size_t i = 0; i < count; i++) {
+        const char *const *words = line->words + 5 * i;
+        cuts[i].by = (struct setup){number(words[0]), number(words[1]), number(words[2]), number(words[3])};
+        cuts[i].kept = told_number(words[4]);
+    }
+    print_combined(cuts, count);
+    free(cuts);
+}
+
 static const struct command commands[] = {
     {"show", "one FILE", 1, 1, DIGITS, run_show},
     {"points", "FILE [ARRAY [SEGMENT]]", 1, 3, CSV | DIGITS, run_points},
     {"cut", "FILE OUT SP NP FP SN hi|lo", 7, 7, FORCE, run_cut},
     {"join", "OUT FILE..", 2, ANY, FORCE, run_join},
+    {"combined", "SP NP FP SN C for each cut", 1, ANY, 0, run_combined},
 };
 
 static void command(int count, char **words)

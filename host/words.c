@@ -88,6 +88,14 @@ const char *counted(int64_t n, const char *what)
     return room;
 }
 
+const char *ordinal(uint32_t n)
+{
+    static char room[32];
+    uint32_t last = n / 10 % 10 == 1 ? 0 : n % 10;
+    snprintf(room, sizeof room, "%s%s", grouped(n), last == 1 ? "st" : last == 2 ? "nd" : last == 3 ? "rd" : "th");
+    return room;
+}
+
 /* ---- enums */
 
 static const char *named(const char *const *names, size_t count, int n)

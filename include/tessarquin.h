@@ -8,7 +8,7 @@
  * starts at byte 2 + d.
  * Whatever stands before the '#' is for the caller to remove.
  *
- * Eight calls, each proved to meet its description for every input:
+ * Nine calls, each proved to meet its description for every input:
  *
  *     tessarquin_open       is this a block that obeys the template, and what is in it?
  *     tessarquin_layout     where do the descriptor and the other parts stand?
@@ -17,11 +17,12 @@
  *     tessarquin_point      one point, in volts and seconds, and whether its sample stands at the rail
  *     tessarquin_fill       all the points of a segment, in volts, and how many samples stand at the rail
  *     tessarquin_cut        a smaller block: some segments, every so many-th point, in either byte order
+ *     tessarquin_combined   the setup of the one cut that stands for two cuts, or for any number of them
  *     tessarquin_join       one block of the segments that were fetched one by one, in whatever order they arrived
  *
  * What holds for all of them
  *
- *   - A call takes any bytes and any numbers, and ends. It checks the block anew each time.
+ *   - A call takes any bytes and any numbers, and ends. It checks the block that it is lent anew each time.
  *   - It returns 0, or the number of its refusal: the first rule broken, in the order of TESSARQUIN_REFUSALS.
  *     A refused call writes nothing. tessarquin_text has the refusal in words.
  *   - Answers are numbers of eight bytes, the high byte first. tessarquin_number, tessarquin_double and
@@ -58,10 +59,11 @@ extern "C" {
 /* The version of these calls. Below 1.0 the second number moves where a call takes or answers something else, and where
    one is added. Since 0.2 tessarquin_point answers 24 bytes (16 before), and tessarquin_fill eight bytes behind its M
    values: whoever fills segments back to back leaves room for them. Since 0.3 there is tessarquin_join, with the refusal
-   16; what was there before is as it was. Header and archive have to be of one version. */
+   16, and since 0.4 tessarquin_combined; what was there before is as it was. Header and archive have to be of one
+   version. */
 #define TESSARQUIN_VERSION_MAJOR 0
-#define TESSARQUIN_VERSION_MINOR 3
-#define TESSARQUIN_VERSION "0.3"
+#define TESSARQUIN_VERSION_MINOR 4
+#define TESSARQUIN_VERSION "0.4"
 
 /*
  * Why a call is refused, in the order of the checks: the first that applies is the number returned. Each entry is the
@@ -93,7 +95,7 @@ extern "C" {
       "ask for one that is there, from 1 on, or have a cut keep all by 0")                                             \
     X(POINT, 11, "there is no such point in a segment",                                                                \
       "ask for one that is there, from 0 on")                                                                          \
-    X(SPARSE, 12, "the block is thinned too much already for this step",                                               \
+    X(SPARSE, 12, "SP times what was thinned before is above 268,435,455, or a combined FP does not fit 32 bits",      \
       "cut with a smaller SP: its product with SPARSING_FACTOR has to be 268,435,455 or below")                        \
     X(JOIN, 16, "the parts are not the segments 1 to n, at most 1,000, of one trace, or together they are no block",   \
       "join every segment of one acquisition once, each fetched alone by its SN and all in the same form")             \
@@ -294,13 +296,54 @@ enum tessarquin_cut_number {
  * enough. What is written obeys the rules: no call refuses it by 1 to 8 or 20. Changed are COMM_ORDER, the lengths of
  * TRIGTIME and of the arrays, WAVE_ARRAY_COUNT, FIRST_POINT, SPARSING_FACTOR (0 becomes 1), and with sn SUBARRAY_COUNT
  * and a SEGMENT_INDEX of 0; every other field is carried, LAST_VALID_PNT among them.
- * The kept points have their values, times and marks bit for bit. A cut of a cut is the one cut with sp the product,
- * fp = fp1 + sp1 * fp2, np the c of the second and sn that of the first, or of the second where the first is 0.
+ * The kept points have their values, times and marks bit for bit. A cut of a cut is one cut of the first block, however
+ * many times it was cut: tessarquin_combined says by which numbers.
  */
 uint32_t tessarquin_cut(const uint8_t *block, size_t block_len,
                         uint32_t sp, uint32_t np, uint32_t fp, uint32_t sn, uint32_t order,
                         uint8_t *out, size_t out_len,
                         uint8_t *answer, size_t answer_len);
+
+/* The numbers that tessarquin_combined answers: those of the one cut. */
+enum tessarquin_combined_number {
+    TESSARQUIN_COMBINED_SP,
+    TESSARQUIN_COMBINED_NP,
+    TESSARQUIN_COMBINED_FP,
+    TESSARQUIN_COMBINED_SN
+};
+#define TESSARQUIN_COMBINED_BYTES 32u
+
+/*
+ * The one cut that stands for two: for cut a, and then cut b of what a wrote, where b answered `count` as its c. It is
+ * worked out from their numbers alone: refusal 12, then 13 if answer_len is below TESSARQUIN_COMBINED_BYTES.
+ *
+ *     SP  spa times spb, where 0 counts as 1; above 268,435,455 it is refused by 12
+ *     NP  count, which npa and npb have limited already; no cut answers 0, and as NP that is no limit
+ *     FP  fpa plus spa times fpb, where an spa of 0 counts as 1; above 4,294,967,295 it is refused by 12
+ *     SN  sna, or snb where sna is 0
+ *
+ * Where both cuts were accepted it is not refused by 12; and the cut of the first block by these four numbers, in the
+ * order of b and with the room that b had, is accepted too, answers what b answered and writes the bytes that b wrote.
+ *
+ * So it goes on for any number of cuts, each of what the one before it wrote: combine the first two, what comes of them
+ * with the third, and so on. Whoever starts from 0, 0, 0, 0, which leaves out nothing, need not ask whether there was
+ * just one: that gives its own numbers, with an SP of 0 as 1 and its c as NP. Cuts that follow each other may also be
+ * combined among themselves first, in any groups, each group with the c of its last cut: the four numbers are the same.
+ * For every 2nd point from point 10 on, and of these every 6th from point 15 on, which were 5:
+ *
+ *     uint8_t one[TESSARQUIN_COMBINED_BYTES];
+ *     if (tessarquin_combined(2, 0, 10, 0, 6, 0, 15, 0, 5, one, sizeof one) == TESSARQUIN_OK) {
+ *         printf("every %uth point", (unsigned)tessarquin_number(one, TESSARQUIN_COMBINED_SP));
+ *         printf(" from point %u", (unsigned)tessarquin_number(one, TESSARQUIN_COMBINED_FP));
+ *         printf(", %u points\n", (unsigned)tessarquin_number(one, TESSARQUIN_COMBINED_NP));
+ *     }
+ *
+ * prints "every 12th point from point 40, 5 points". Numbers that no cuts can have had are taken as they are:
+ * host/combined.c finds such before it asks.
+ */
+uint32_t tessarquin_combined(uint32_t spa, uint32_t npa, uint32_t fpa, uint32_t sna,
+                             uint32_t spb, uint32_t npb, uint32_t fpb, uint32_t snb, uint32_t count,
+                             uint8_t *answer, size_t answer_len);
 
 /* ---- joins */
 

@@ -2,11 +2,11 @@
  * answers on standard output with the number and with all slices as the call left them. src/runner.rs
  * is the other end.
  *
- * A request is eleven numbers of four bytes, low byte first: the kind of call, five numbers for it, and
- * the lengths of block, fallback, out, answer and marks; then the bytes of these five slices. A reply is
- * what the call returned, in eight bytes, and in four which slices have lost the known bytes before them
- * (bit 0 block, 1 fallback, 2 out, 3 answer, 4 marks); then the bytes of the slices again. Floats are
- * lent, and come back, as the bytes that they have in memory.
+ * A request is fifteen numbers of four bytes, low byte first: the kind of call, nine numbers for it (0
+ * where it takes fewer), and the lengths of block, fallback, out, answer and marks; then the bytes of these
+ * five slices. A reply is what the call returned, in eight bytes, and in four which slices have lost the
+ * known bytes before them (bit 0 block, 1 fallback, 2 out, 3 answer, 4 marks); then the bytes of the slices
+ * again. Floats are lent, and come back, as the bytes that they have in memory.
  *
  * Every slice ends where memory that cannot be touched begins, so a call that reads or writes
  * behind a slice ends this program by a signal. */
@@ -25,9 +25,12 @@
 
 enum kind {
     PROBE, OPEN, POINT, FILL, CUT, FLOATS, WALK, STEP, USER_TEXT, LABEL, LAYOUT, TEXT_PLACE, LABEL_PLACE, WALKED_FLOATS,
-    JOIN
+    JOIN, COMBINED
 };
 enum { BLOCK, FALLBACK, OUT, ANSWER, MARKS, SLICES };
+
+/* How many numbers a request has for its call. */
+#define NUMBERS 9
 
 /* Memory that cannot be touched comes in pages; no machine has larger ones than this. */
 #define PAGE ((size_t)65536)
@@ -129,7 +132,7 @@ static double *floats(const struct slice *slice)
 }
 
 /* The calls that are not in the library. */
-static uint64_t call_of_tests(enum kind kind, const uint32_t n[5], const struct slice lent[SLICES])
+static uint64_t call_of_tests(enum kind kind, const uint32_t n[NUMBERS], const struct slice lent[SLICES])
 {
     const uint8_t *block = start(&lent[BLOCK]), *fallback = start(&lent[FALLBACK]);
     uint8_t *answer = start(&lent[ANSWER]), *marks = start(&lent[MARKS]);
@@ -156,7 +159,7 @@ static uint64_t call_of_tests(enum kind kind, const uint32_t n[5], const struct 
     }
 }
 
-static uint64_t call(enum kind kind, const uint32_t n[5], const struct slice lent[SLICES])
+static uint64_t call(enum kind kind, const uint32_t n[NUMBERS], const struct slice lent[SLICES])
 {
     const uint8_t *block = start(&lent[BLOCK]);
     uint8_t *out = start(&lent[OUT]), *answer = start(&lent[ANSWER]);
@@ -173,6 +176,8 @@ static uint64_t call(enum kind kind, const uint32_t n[5], const struct slice len
         return tessarquin_fill(block, block_len, n[0], n[1], answer, answer_len);
     case CUT:
         return tessarquin_cut(block, block_len, n[0], n[1], n[2], n[3], n[4], out, out_len, answer, answer_len);
+    case COMBINED:
+        return tessarquin_combined(n[0], n[1], n[2], n[3], n[4], n[5], n[6], n[7], n[8], answer, answer_len);
     case JOIN:
         return tessarquin_join(block, block_len, out, out_len, answer, answer_len);
     case LAYOUT:
@@ -190,16 +195,16 @@ int main(void)
 {
     static const struct rlimit none;
     static struct slice lent[SLICES];
-    uint8_t request[(6 + SLICES) * 4], reply[8 + 4];
+    uint8_t request[(1 + NUMBERS + SLICES) * 4], reply[8 + 4];
 
     if (setrlimit(RLIMIT_CORE, &none) != 0) /* a signal is an answer: it leaves no file behind */
         fail("setrlimit");
     while (take(request, sizeof request)) {
-        uint32_t n[5], lost = 0;
-        for (int i = 0; i < 5; i++)
-            n[i] = number(request + 4 + 4 * i);
+        uint32_t n[NUMBERS], lost = 0;
+        for (int i = 0; i < NUMBERS; i++)
+            n[i] = number(request + 4 * (1 + i));
         for (int i = 0; i < SLICES; i++) {
-            lend(&lent[i], number(request + 24 + 4 * i));
+            lend(&lent[i], number(request + 4 * (1 + NUMBERS + i)));
             if (lent[i].len != 0 && !take(start(&lent[i]), lent[i].len))
                 fail("input ends within a request");
         }

@@ -13,8 +13,9 @@
  *     between    both: OUT comes to be on such a file system
  *     swapped    a file stands where a pipe did, just before it is opened
  *     count      tells at the end how many points, fills and cuts were asked of blocks of more than 1,000 bytes
+ *     uncombined two cuts are refused by 12, whatever their numbers are
  *     unjoined   a join is refused by 16, whatever the parts are
- *     unasked    a join is refused by 13, though there is room
+ *     unasked    a join, and two cuts, are refused by 13, though there is room
  */
 #define _GNU_SOURCE
 #include "tessarquin.h"
@@ -39,7 +40,8 @@ uint32_t __real_tessarquin_fill(const uint8_t *block, size_t block_len, uint32_t
                                 size_t answer_len);
 uint32_t __real_tessarquin_cut(const uint8_t *block, size_t block_len, uint32_t sp, uint32_t np, uint32_t fp, uint32_t sn,
                                uint32_t order, uint8_t *out, size_t out_len, uint8_t *answer, size_t answer_len);
-
+uint32_t __real_tessarquin_combined(uint32_t spa, uint32_t npa, uint32_t fpa, uint32_t sna, uint32_t spb, uint32_t npb,
+                                    uint32_t fpb, uint32_t snb, uint32_t count, uint8_t *answer, size_t answer_len);
 uint32_t __real_tessarquin_join(const uint8_t *parts, size_t parts_len, uint8_t *out, size_t out_len, uint8_t *answer,
                                 size_t answer_len);
 
@@ -144,6 +146,16 @@ uint32_t __wrap_tessarquin_cut(const uint8_t *block, size_t block_len, uint32_t 
 {
     ask(block_len);
     return __real_tessarquin_cut(block, block_len, sp, np, fp, sn, order, out, out_len, answer, answer_len);
+}
+
+uint32_t __wrap_tessarquin_combined(uint32_t spa, uint32_t npa, uint32_t fpa, uint32_t sna, uint32_t spb, uint32_t npb,
+                                    uint32_t fpb, uint32_t snb, uint32_t count, uint8_t *answer, size_t answer_len)
+{
+    if (fault("uncombined"))
+        return TESSARQUIN_SPARSE;
+    if (fault("unasked"))
+        return TESSARQUIN_ROOM;
+    return __real_tessarquin_combined(spa, npa, fpa, sna, spb, npb, fpb, snb, count, answer, answer_len);
 }
 
 uint32_t __wrap_tessarquin_join(const uint8_t *parts, size_t parts_len, uint8_t *out, size_t out_len, uint8_t *answer,

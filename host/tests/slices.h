@@ -149,6 +149,15 @@ static inline uint32_t cut(struct slice block, const uint32_t *setup, uint32_t o
     return refusal;
 }
 
+/* Of setup a and then setup b, which kept `count`. */
+static inline uint32_t combined(const uint32_t *a, const uint32_t *b, uint32_t count, size_t room)
+{
+    struct slice answer = lend(room);
+    uint32_t refusal = tessarquin_combined(a[0], a[1], a[2], a[3], b[0], b[1], b[2], b[3], count, answer.bytes, room);
+    take(answer, refusal, 4);
+    return refusal;
+}
+
 /* A join to a slice, which the caller gives back. */
 static inline uint32_t join(struct slice parts, struct slice out, size_t room)
 {

@@ -1,5 +1,6 @@
 //! A case: one block and what is asked of it, fixed by a seed and a case number.
 
+use crate::chains;
 use crate::compare::{Checker, Difference};
 use crate::draft::{digits, Draft};
 use crate::edges::{self, Edge};
@@ -58,6 +59,7 @@ pub fn run(checker: &mut Checker, seed: u64, case: u64) -> (String, Result<(), D
         }
         _ if case % 32 == 31 => ("two headers".into(), two_headers(checker, random)),
         _ if case % 32 == 23 => ("parts and texts".into(), parts_and_texts(checker, random)),
+        _ if case % 32 == 15 => chains::run(checker, case / 32, random),
         _ => ("cut of a cut".into(), cut_of_cut(checker, random)),
     }
 }
@@ -175,12 +177,13 @@ fn ask_any(checker: &mut Checker, block: &[u8], random: &mut Random) -> Result<(
     ask_little(checker, block, random)
 }
 
-/// Each C call once, and two of the test calls.
+/// Each C call once but a join, and two of the test calls.
 fn ask_little(checker: &mut Checker, block: &[u8], random: &mut Random) -> Result<(), Difference> {
     let extent = Extent::of(block);
     let mut calls = extent.c_calls(random);
     let others = extent.test_calls(random);
     calls.extend([random.pick(&others), random.pick(&others)]);
+    calls.push(chains::any_combined(random));
     ask(checker, block, random, &calls)
 }
 
@@ -193,6 +196,7 @@ fn ask_much(checker: &mut Checker, block: &[u8], random: &mut Random) -> Result<
     calls.extend((0..2).map(|_| extent.right_cut(random)));
     calls.extend(place_calls(random));
     calls.extend(extent.test_calls(random));
+    calls.push(chains::any_combined(random));
     ask(checker, block, random, &calls)
 }
 

@@ -1,5 +1,6 @@
 //! The comparison: every reply against that of the independent implementation, byte for byte.
 
+use crate::chains::MOST_CUTS;
 use crate::request::{Call, Calls, Core, Reply, Request};
 use std::collections::BTreeMap;
 use std::fmt::Display;
@@ -22,6 +23,9 @@ pub struct Tally {
     pub marked_blocks: u64,
     /// Blocks that a join wrote and whose segments are the parts.
     pub joined_blocks: u64,
+    /// Chains of cuts that are one cut, and how many of them are of the most cuts.
+    pub chains: u64,
+    pub longest_chains: u64,
 }
 
 impl Tally {
@@ -44,7 +48,13 @@ impl Tally {
         if self.marked_blocks == 0 {
             return Some("no block's marks were looked for".into());
         }
-        (self.joined_blocks == 0).then(|| "no joined block was looked at".into())
+        if self.joined_blocks == 0 {
+            return Some("no joined block was looked at".into());
+        }
+        if self.chains == 0 {
+            return Some("no chain of cuts was made".into());
+        }
+        (self.longest_chains == 0).then(|| format!("no chain of {MOST_CUTS} cuts was made"))
     }
 
     /// How many calls were made.

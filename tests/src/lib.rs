@@ -2,6 +2,7 @@
 //! with it: a generator of blocks and questions, the comparison, and a runner at the end of a pipe.
 
 pub mod cases;
+pub mod chains;
 pub mod compare;
 pub mod draft;
 pub mod edges;

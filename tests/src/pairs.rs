@@ -1,10 +1,12 @@
 //! Demand 3, on the core's own answers: a cut of a cut is the one combined cut, and every kept
 //! point has the value, time and mark it had in the first block.
 
+use crate::chains::combined;
 use crate::compare::{reply_difference, Checker, Difference};
+use crate::law::cut::Setup;
 use crate::questions::Extent;
 use crate::random::Random;
-use crate::request::{Call, Reply};
+use crate::request::{Call, Reply, Request};
 use crate::rooms::{exact_request, with_room, Room};
 
 /// Two cuts, one after the other, and the points of what they leave.
@@ -32,36 +34,30 @@ pub fn check(checker: &mut Checker, block: &[u8], random: &mut Random) -> Result
         // A segment or point that the first cut left out may well be in the first block.
         return Ok(());
     }
-    let c = if second.number == 0 { second.number_at(0) } else { 0 };
-    let Some(combined) = combined(a, b, c) else {
-        return Ok(()); // SP does not fit 32 bits, so b was refused for it
+    let c = if second.number == 0 { second.number_at(0) as u32 } else { 0 };
+    let (Call::Cut { setup: of_a, .. }, Call::Cut { setup: of_b, order }) = (a, b) else {
+        unreachable!("both calls are cuts");
     };
-    let mut at_once = of_cut.clone();
-    at_once.call = combined;
-    at_once.block = block;
-    let at_once = checker.ask(&at_once)?;
-    same(&second, &at_once, a, b)?;
+    let at_once = match combined(checker, [of_a, of_b], c, random)? {
+        Some(setup) => Call::Cut { setup, order },
+        None => return refused_too(&second, a, b),
+    };
+    let reply = checker.ask(&Request { call: at_once, block, ..of_cut })?;
+    same(&second, &reply, a, b)?;
     if second.number == 0 {
-        kept_points(checker, block, combined, &second, random)?;
+        kept_points(checker, block, at_once, &second, random)?;
     }
     Ok(())
 }
 
-/// The combined setup of cuts a, then b, in the order b asks for; c is what b answered.
-fn combined(a: Call, b: Call, c: u64) -> Option<Call> {
-    let (Call::Cut { sp: sp_a, fp: fp_a, sn: sn_a, .. }, Call::Cut { sp, fp, sn, order, .. }) =
-        (a, b)
-    else {
-        unreachable!("both calls are cuts");
-    };
-    let step = sp_a.max(1);
-    Some(Call::Cut {
-        sp: step.checked_mul(sp.max(1))?,
-        np: c as u32,
-        fp: fp_a.checked_add(step.checked_mul(fp)?)?,
-        sn: if sn_a != 0 { sn_a } else { sn },
-        order,
-    })
+/// Cuts with no combined setup: b was refused by 12 as well, or by 9, whatever its setup is.
+fn refused_too(second: &Reply, a: Call, b: Call) -> Result<(), Difference> {
+    match second.number {
+        9 | 12 => Ok(()),
+        number => Err(Difference(format!(
+            "cuts are not combined, and the second gave {number}\n    first {a}\n    then {b}"
+        ))),
+    }
 }
 
 fn same(of_cut: &Reply, at_once: &Reply, a: Call, b: Call) -> Result<(), Difference> {
@@ -75,14 +71,16 @@ fn same(of_cut: &Reply, at_once: &Reply, a: Call, b: Call) -> Result<(), Differe
 
 /// The points of a cut block against the points of the first block that they are: value, time and
 /// mark.
-fn kept_points(
+pub fn kept_points(
     checker: &mut Checker,
     block: &[u8],
     cut: Call,
     reply: &Reply,
     random: &mut Random,
 ) -> Result<(), Difference> {
-    let Call::Cut { sp, fp, sn, .. } = cut else { unreachable!("the call is a cut") };
+    let Call::Cut { setup: Setup { sp, fp, sn, .. }, .. } = cut else {
+        unreachable!("the call is a cut");
+    };
     for (array, segment, k) in some_points(&Extent::of(reply.written()), random) {
         let kept = Call::Point { array, segment, point: k };
         let first = Call::Point {

@@ -1,5 +1,6 @@
 //! What is asked of a block: calls with numbers at and beyond their limits.
 
+use crate::law::cut::Setup;
 use crate::law::rules::{open, LAST_PLACE};
 use crate::random::Random;
 use crate::request::Call;
@@ -53,7 +54,7 @@ impl Extent {
             0 => self.beyond(random, self.segments),
             _ => self.right_sn(random),
         };
-        Call::Cut { sp, np: self.np(random, sp, fp), fp, sn, order }
+        Call::Cut { setup: Setup { sp, np: self.np(random, sp, fp), fp, sn }, order }
     }
 
     /// A cut that only a lack of room can refuse.
@@ -63,7 +64,8 @@ impl Extent {
         let near = random.range(0, i64::from(half)) as u32;
         let fp = random.pick(&[0, 0, near, near, self.points - 1]);
         let np = self.np(random, sp, fp);
-        Call::Cut { sp, np, fp, sn: self.right_sn(random), order: random.below(2) as u32 }
+        let setup = Setup { sp, np, fp, sn: self.right_sn(random) };
+        Call::Cut { setup, order: random.below(2) as u32 }
     }
 
     fn floats(&self, random: &mut Random) -> Call {
@@ -145,7 +147,7 @@ impl Extent {
     }
 
     /// The highest SP that 12 lets pass.
-    fn sparse_limit(&self) -> u32 {
+    pub fn sparse_limit(&self) -> u32 {
         LAST_PLACE as u32 / self.sparsing
     }
 

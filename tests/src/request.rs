@@ -1,5 +1,6 @@
 //! What is asked of an implementation of the public calls, and what it replies.
 
+use crate::law::cut::Setup;
 use std::fmt;
 use std::panic::{catch_unwind, AssertUnwindSafe};
 
@@ -9,7 +10,9 @@ pub enum Call {
     Open,
     Point { array: u32, segment: u32, point: u32 },
     Fill { array: u32, segment: u32 },
-    Cut { sp: u32, np: u32, fp: u32, sn: u32, order: u32 },
+    Cut { setup: Setup, order: u32 },
+    // The one cut for cut a, then cut b, which answered `count`; it takes no block.
+    Combined { a: Setup, b: Setup, count: u32 },
     // `block` holds the parts, back to back.
     Join,
     // Where the payload and its ten parts start, with the fields that say so.
@@ -34,7 +37,7 @@ pub enum Call {
 
 impl Call {
     /// How many calls there are, by name.
-    pub const NAMES: usize = 14;
+    pub const NAMES: usize = 15;
 
     pub fn name(&self) -> &'static str {
         match self {
@@ -42,6 +45,7 @@ impl Call {
             Call::Point { .. } => "point",
             Call::Fill { .. } => "fill",
             Call::Cut { .. } => "cut",
+            Call::Combined { .. } => "combined setup",
             Call::Join => "join",
             Call::Layout => "layout",
             Call::TextPlace => "place of user text",
@@ -96,9 +100,8 @@ impl fmt::Display for Call {
             | Call::Floats { array, segment }
             | Call::WalkedFloats { array, segment }
             | Call::Walk { array, segment } => write!(f, ": array {array}, segment {segment}"),
-            Call::Cut { sp, np, fp, sn, order } => {
-                write!(f, ": SP {sp}, NP {np}, FP {fp}, SN {sn}, order {order}")
-            }
+            Call::Cut { setup, order } => write!(f, ": {setup}, order {order}"),
+            Call::Combined { a, b, count } => write!(f, ": {a}; then {b}, c {count}"),
             Call::Step { array, segment, k } => {
                 write!(f, ": array {array}, segment {segment}, after {k}")
             }
@@ -109,9 +112,16 @@ impl fmt::Display for Call {
     }
 }
 
+impl fmt::Display for Setup {
+    fn fmt(&self, f: &mut fmt::Formatter) -> fmt::Result {
+        let Setup { sp, np, fp, sn } = self;
+        write!(f, "SP {sp}, NP {np}, FP {fp}, SN {sn}")
+    }
+}
+
 /// A call with the slices lent to it, and what they hold before it. `fallback` is empty but for a
 /// label and its place, `out` but for a cut, a join and a walk, `marks` but for a walk and a step.
-/// Floats are lent as their bytes, the low byte first.
+/// A combined setup takes no block. Floats are lent as their bytes, the low byte first.
 #[derive(Clone)]
 pub struct Request<'a> {
     pub call: Call,
@@ -163,6 +173,7 @@ pub struct Calls {
     pub point: fn(&[u8], u32, u32, u32, &mut [u8]) -> u32,
     pub fill: fn(&[u8], u32, u32, &mut [u8]) -> u32,
     pub cut: fn(&[u8], u32, u32, u32, u32, u32, &mut [u8], &mut [u8]) -> u32,
+    pub combined: fn(u32, u32, u32, u32, u32, u32, u32, u32, u32, &mut [u8]) -> u32,
     pub join: fn(&[u8], &mut [u8], &mut [u8]) -> u32,
     pub layout: fn(&[u8], &mut [u8]) -> u32,
     pub text_place: fn(&[u8], &mut [u8]) -> u32,
@@ -179,12 +190,13 @@ pub struct Calls {
 #[macro_export]
 macro_rules! calls_of {
     ($module:path) => {{
-        use $module::{calls, join, places, tested};
+        use $module::{calls, combined, join, places, tested};
         $crate::request::Calls {
             open: calls::open,
             point: calls::point,
             fill: calls::fill,
             cut: calls::cut,
+            combined: combined::combined,
             join: join::join,
             layout: places::layout,
             text_place: places::text_place,
@@ -213,8 +225,11 @@ impl Calls {
                 (self.point)(block, array, segment, point, &mut answer).into()
             }
             Call::Fill { array, segment } => (self.fill)(block, array, segment, &mut answer).into(),
-            Call::Cut { sp, np, fp, sn, order } => {
+            Call::Cut { setup: Setup { sp, np, fp, sn }, order } => {
                 (self.cut)(block, sp, np, fp, sn, order, &mut out, &mut answer).into()
+            }
+            Call::Combined { a, b: Setup { sp, np, fp, sn }, count } => {
+                (self.combined)(a.sp, a.np, a.fp, a.sn, sp, np, fp, sn, count, &mut answer).into()
             }
             Call::Join => (self.join)(block, &mut out, &mut answer).into(),
             Call::Layout => (self.layout)(block, &mut answer).into(),

@@ -24,7 +24,7 @@ impl Room {
         Room { out, answer, marks: 0 }
     }
 
-    fn for_answer(answer: usize) -> Room {
+    pub fn for_answer(answer: usize) -> Room {
         Room { out: 0, answer, marks: 0 }
     }
 }
@@ -87,6 +87,7 @@ fn need(call: Call, block: &[u8]) -> Room {
             let reply = LAW.reply(&with_zeros(call, block, room));
             Room::for_block(if reply.number == 0 { reply.written().len() } else { 400 }, 16)
         }
+        Call::Combined { .. } => Room::for_answer(32),
         Call::Layout => Room::for_answer(200),
         Call::TextPlace => Room::for_answer(16),
         Call::LabelPlace { .. } => Room::for_answer(24),

@@ -9,10 +9,16 @@ use std::sync::{Arc, Mutex, Weak};
 use std::thread;
 use std::time::{Duration, Instant};
 
+use crate::law::cut::Setup;
 use crate::request::{Call, Core, Reply, Request};
 
+/// How many numbers a request has for its call; those that the call does not take are 0.
+const NUMBERS: usize = 9;
+
 const SLICES: [&str; 5] = ["block", "fallback", "out", "answer", "marks"];
-/// What the slices hold while the runner itself is tried.
+
+/// The kind of call that tries the runner itself, and what the slices hold then.
+const PROBE: u32 = 0;
 const PROBED: Lent = [&[1], &[2], &[3], &[4], &[5]];
 
 /// The bytes of the slices, in that order.
@@ -57,12 +63,12 @@ impl Runner {
     pub fn probe(command: &[String]) -> Result<(), String> {
         let mut runner = Runner::start(command)?;
         for (slice, name) in SLICES.iter().enumerate() {
-            let reply = runner.exchange(&probe_numbers(slice, 0), PROBED)?;
+            let reply = runner.exchange(PROBE, &[slice as u32, 0], PROBED)?;
             if reply.spoiled != [*name] {
                 return Err(format!("the runner does not see a change before {name}"));
             }
             let mut victim = Runner::start_with(command, Stdio::null())?;
-            match victim.exchange(&probe_numbers(slice, 1), PROBED) {
+            match victim.exchange(PROBE, &[slice as u32, 1], PROBED) {
                 Err(why) if why.contains("signal") => (),
                 Err(why) => return Err(why),
                 Ok(_) => return Err(format!("the byte behind {name} can be touched")),
@@ -71,17 +77,18 @@ impl Runner {
         Ok(())
     }
 
-    fn exchange(&mut self, numbers: &[u32; 6], slices: Lent) -> Result<Reply, String> {
+    fn exchange(&mut self, kind: u32, numbers: &[u32], slices: Lent) -> Result<Reply, String> {
         self.steps.fetch_add(1, Ordering::SeqCst);
-        let reply = self.write(numbers, slices).and_then(|()| self.read(slices));
+        let reply = self.write(kind, numbers, slices).and_then(|()| self.read(slices));
         self.steps.fetch_add(1, Ordering::SeqCst);
         reply.map_err(|error| self.end(error))
     }
 
-    fn write(&mut self, numbers: &[u32; 6], slices: Lent) -> std::io::Result<()> {
-        let lengths = slices.map(|slice| slice.len() as u32);
-        let head = numbers.iter().chain(&lengths).flat_map(|number| number.to_le_bytes());
-        let mut bytes: Vec<u8> = head.collect();
+    fn write(&mut self, kind: u32, numbers: &[u32], slices: Lent) -> std::io::Result<()> {
+        let mut head = [&[kind], numbers].concat();
+        head.resize(1 + NUMBERS, 0);
+        head.extend(slices.map(|slice| slice.len() as u32));
+        let mut bytes: Vec<u8> = head.into_iter().flat_map(u32::to_le_bytes).collect();
         slices.iter().for_each(|slice| bytes.extend(*slice));
         self.input.write_all(&bytes)
     }
@@ -119,24 +126,29 @@ impl Runner {
 
 impl Core for Runner {
     fn ask(&mut self, request: &Request) -> Result<Reply, String> {
-        let numbers = match request.call {
-            Call::Open => [1, 0, 0, 0, 0, 0],
-            Call::Point { array, segment, point } => [2, array, segment, point, 0, 0],
-            Call::Fill { array, segment } => [3, array, segment, 0, 0, 0],
-            Call::Cut { sp, np, fp, sn, order } => [4, sp, np, fp, sn, order],
-            Call::Floats { array, segment } => [5, array, segment, 0, 0, 0],
-            Call::Walk { array, segment } => [6, array, segment, 0, 0, 0],
-            Call::Step { array, segment, k } => [7, array, segment, k, 0, 0],
-            Call::UserText => [8, 0, 0, 0, 0, 0],
-            Call::Label { .. } => [9, 0, 0, 0, 0, 0],
-            Call::Layout => [10, 0, 0, 0, 0, 0],
-            Call::TextPlace => [11, 0, 0, 0, 0, 0],
-            Call::LabelPlace { .. } => [12, 0, 0, 0, 0, 0],
-            Call::WalkedFloats { array, segment } => [13, array, segment, 0, 0, 0],
-            Call::Join => [14, 0, 0, 0, 0, 0],
+        let (kind, numbers) = match request.call {
+            Call::Open => (1, vec![]),
+            Call::Point { array, segment, point } => (2, vec![array, segment, point]),
+            Call::Fill { array, segment } => (3, vec![array, segment]),
+            Call::Cut { setup: Setup { sp, np, fp, sn }, order } => {
+                (4, vec![sp, np, fp, sn, order])
+            }
+            Call::Floats { array, segment } => (5, vec![array, segment]),
+            Call::Walk { array, segment } => (6, vec![array, segment]),
+            Call::Step { array, segment, k } => (7, vec![array, segment, k]),
+            Call::UserText => (8, vec![]),
+            Call::Label { .. } => (9, vec![]),
+            Call::Layout => (10, vec![]),
+            Call::TextPlace => (11, vec![]),
+            Call::LabelPlace { .. } => (12, vec![]),
+            Call::WalkedFloats { array, segment } => (13, vec![array, segment]),
+            Call::Join => (14, vec![]),
+            Call::Combined { a, b, count } => {
+                (15, vec![a.sp, a.np, a.fp, a.sn, b.sp, b.np, b.fp, b.sn, count])
+            }
         };
         let Request { block, fallback, out, answer, marks, .. } = request;
-        self.exchange(&numbers, [block, fallback, out, answer, marks])
+        self.exchange(kind, &numbers, [block, fallback, out, answer, marks])
     }
 }
 
@@ -148,10 +160,6 @@ impl Drop for Runner {
             let _ = child.wait();
         }
     }
-}
-
-fn probe_numbers(slice: usize, behind: u32) -> [u32; 6] {
-    [0, slice as u32, behind, 0, 0, 0]
 }
 
 /// Ends a runner whose call takes too long, so that the reader of its output goes on.

@@ -1,3 +1,4 @@
 pub mod Groups
 pub mod Alone
 pub mod Chain
+pub mod InRow

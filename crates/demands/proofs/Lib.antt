@@ -4,3 +4,4 @@ pub mod Segments
 pub mod Back
 pub mod Circle
 pub mod Chains
+pub mod HostChains

@@ -72,17 +72,25 @@ done s bytes c q out answer m left second call z =
       },
     )
 
--- with room for four numbers, and where it is not refused by 12, `tessarquin_combined` returns 0 and leaves those of the combined setup
-pub combined-left : (a b : Setup) (c : ℕ) (answer : List ℕ) (n : ℕ) (left : List ℕ) → CombinedCall a b c answer n left → 32 ≤ length answer
-    → combinedRefusal a b ≡ 0 → Small (combined a b c) → (n ≡ 0) × (numbers 0 8 4 left ≡ setupNumbers (combined a b c))
+-- a call of `tessarquin_combined` that returned 0: it is not refused by 12, and the four numbers that it left are those of the combined setup
+pub combined-told : (a b : Setup) (c : ℕ) (answer : List ℕ) (n : ℕ) (left : List ℕ) → CombinedCall a b c answer n left → n ≡ 0
+    → (combinedRefusal a b ≡ 0) × (Small (combined a b c) → numbers 0 8 4 left ≡ setupNumbers (combined a b c))
 unfolding combinedNumber combinedLeft
-combined-left a b c answer n left call h z small =
-    let zero-too : n ≡ 0 = call .2 .0 ∙ number-enough (combinedRefusal a b) (combinedBytes a b c) (length answer) (omega (arith, combined-length a b c)) ∙ z in
-    let there : left ≡ splice answer 0 (combinedBytes a b c) = own-answered (combinedRefusal a b) (combinedBytes a b c) answer n left (call .2) zero-too .1 in (
-      zero-too,
-      ap (numbers 0 8 4) there
+combined-told a b c answer n left call z =
+    let there = own-answered (combinedRefusal a b) (combinedBytes a b c) answer n left (call .2) z in (
+      there .0,
+      λ small.
+          ap (numbers 0 8 4) (there .1)
           ∙ numbers-read (setupNumbers (combined a b c)) answer (omega (arith, small .sp), (omega (arith, small .np), (omega (arith, small .fp), (omega (arith, small .sn), tt)))),
     )
+
+-- with room for them it returns 0 where it is not refused by 12
+pub combined-left : (a b : Setup) (c : ℕ) (answer : List ℕ) (n : ℕ) (left : List ℕ) → CombinedCall a b c answer n left → 32 ≤ length answer
+    → combinedRefusal a b ≡ 0 → Small (combined a b c) → (n ≡ 0) × (numbers 0 8 4 left ≡ setupNumbers (combined a b c))
+unfolding combinedNumber
+combined-left a b c answer n left call h z small =
+    let zero-too : n ≡ 0 = call .2 .0 ∙ number-enough (combinedRefusal a b) (combinedBytes a b c) (length answer) (omega (arith, combined-length a b c)) ∙ z in
+    (zero-too, combined-told a b c answer n left call zero-too .1 small)
 
 -- ---- demand 3
 

@@ -5,6 +5,7 @@ use std::panic;
 use std::process::ExitCode;
 
 use tessarquin_tests::cases;
+use tessarquin_tests::chains;
 use tessarquin_tests::compare::{Checker, Difference};
 use tessarquin_tests::joins;
 use tessarquin_tests::random::Random;
@@ -38,12 +39,18 @@ struct Way {
     run: fn(&mut Checker, &mut Random) -> Result<(), Difference>,
 }
 
-const WAYS: [Way; 8] = [
+const WAYS: [Way; 9] = [
     Way {
         flaw: "breaks demand 3",
         caught_how: "caught by demand 3 alone",
         kind: "cut of a cut",
         run: cases::cut_of_cut,
+    },
+    Way {
+        flaw: "breaks a chain",
+        caught_how: "caught by chains of cuts alone",
+        kind: "chain of cuts",
+        run: chains::any_chain,
     },
     Way {
         flaw: "breaks a rule",

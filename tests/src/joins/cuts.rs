@@ -4,6 +4,7 @@
 use super::answers::joined;
 use super::parts::Plan;
 use crate::compare::{Checker, Difference};
+use crate::law::cut::Setup;
 use crate::law::descriptor::SEGMENT_INDEX;
 use crate::questions::Extent;
 use crate::random::Random;
@@ -17,17 +18,17 @@ const CUT_BACK: usize = 4;
 pub fn check(checker: &mut Checker, plan: &Plan, random: &mut Random) -> Result<(), Difference> {
     let sequence = plan.sequence(random);
     let whole = sequence.bytes();
-    let setup = Extent::of(&whole).right_cut(random);
+    let cut = Extent::of(&whole).right_cut(random);
     let from_sequence = random.once_in(2);
     let mut parts = vec![];
     if from_sequence {
         for sn in 1..=plan.shape.segments() as u32 {
-            parts.push((sn, written(checker, &whole, with_sn(setup, sn), random)?));
+            parts.push((sn, written(checker, &whole, with_sn(cut, sn), random)?));
         }
     } else {
         for draft in plan.parts_of(&sequence, random).drafts {
             let index = draft.long(SEGMENT_INDEX) as u32;
-            parts.push((index, written(checker, &draft.bytes(), with_sn(setup, 1), random)?));
+            parts.push((index, written(checker, &draft.bytes(), with_sn(cut, 1), random)?));
         }
     }
     random.shuffle(&mut parts);
@@ -35,12 +36,12 @@ pub fn check(checker: &mut Checker, plan: &Plan, random: &mut Random) -> Result<
     let reply = joined(checker, &slice, random)?;
     let block = reply.written();
     for (index, part) in parts.iter().take(CUT_BACK) {
-        let Call::Cut { order, .. } = setup else { unreachable!("the setup is a cut") };
-        let back = Call::Cut { sp: 1, np: 0, fp: 0, sn: *index, order };
+        let Call::Cut { order, .. } = cut else { unreachable!("the call is a cut") };
+        let back = Call::Cut { setup: Setup { sp: 1, np: 0, fp: 0, sn: *index }, order };
         same(&format!("part {index}, by {back}"), &written(checker, block, back, random)?, part)?;
     }
     if from_sequence {
-        let plain = written(checker, &whole, with_sn(setup, 0), random)?;
+        let plain = written(checker, &whole, with_sn(cut, 0), random)?;
         same("segments of a sequence, joined", block, &plain)?;
     }
     checker.tally.joined_blocks += 1;
@@ -48,8 +49,8 @@ pub fn check(checker: &mut Checker, plan: &Plan, random: &mut Random) -> Result<
 }
 
 fn with_sn(cut: Call, sn: u32) -> Call {
-    let Call::Cut { sp, np, fp, order, .. } = cut else { unreachable!("the call is a cut") };
-    Call::Cut { sp, np, fp, sn, order }
+    let Call::Cut { setup, order } = cut else { unreachable!("the call is a cut") };
+    Call::Cut { setup: Setup { sn, ..setup }, order }
 }
 
 /// What a cut writes that nothing refuses.

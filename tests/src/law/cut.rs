@@ -10,7 +10,7 @@ use super::rules::Opened;
 pub const CUT_MORE: usize = 6;
 
 /// WAVEFORM_SETUP's four numbers; an SP of 0 counts as 1.
-#[derive(Clone, Copy, Debug)]
+#[derive(Clone, Copy, Debug, PartialEq, Eq)]
 pub struct Setup {
     pub sp: u32,
     pub np: u32,

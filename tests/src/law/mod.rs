@@ -6,6 +6,7 @@
 //! files that use it; so the files find one another by `super::`.
 
 pub mod calls;
+pub mod combined;
 pub mod cut;
 pub mod descriptor;
 pub mod join;
