@@ -114,6 +114,8 @@ static uint32_t of_cut(void)
     return refusal ? refusal : asked(out, (size_t)tessarquin_number(answer, 1), 1);
 }
 
+static uint32_t combined(void) { return tessarquin_combined(2, 0, 10, 0, 6, 0, 15, 0, 5, answer, sizeof answer); }
+
 /* A join, and one that is refused; in C every part is opened by the library, and copied where the join is made. */
 static uint32_t joined(void) { return tessarquin_join(block, length, out, length + TESSARQUIN_JOIN_MORE, answer, sizeof answer); }
 static uint32_t unjoined(void) { return joined() != TESSARQUIN_JOIN; }
@@ -179,6 +181,7 @@ static const struct work {
     {"user-text", 1, 2, 0, text_found, NULL},
     {"label", 1, 2, 0, label_found, NULL},
     {"label-full", 1, 2, 0, label_found, NULL},
+    {"combined", 1, 2, 0, combined, NULL},
     {"point", 1, 2, 0, one_point, NULL},
     {"point-trigger", 1, 2, 1, last_segment, NULL},
     {"sequence-whole", 1, 2, IN_SEQUENCE, of_whole, NULL},
@@ -299,6 +302,7 @@ static void print_stacks(void)
     printf("tessarquin_point %zu\n", touched(one_point) - none);
     printf("tessarquin_fill %zu\n", touched(filled) - none);
     printf("tessarquin_cut %zu\n", touched(by_4) - none);
+    printf("tessarquin_combined %zu\n", touched(combined) - none);
     make_parts(0, 1000, IN_SMALL);
     printf("tessarquin_join %zu\n", touched(joined) - none);
 }

@@ -1,5 +1,6 @@
 // One case each: a block, with numbers of four bytes stored over it, a call, and a line with the number that the call gives.
 use crate::blocks;
+use cuts::Combination;
 use cuts::Setup;
 use libc::STDOUT_FILENO;
 ghost use Prim.Native.Nat.{_≤_};
@@ -100,6 +101,14 @@ pub fn cuts(name: &[u8], shape: u32, setup: Setup, order: u32, room: usize) {
     blocks::make(shape, &mut block);
     let slice = 11 + blocks::payload(shape) as usize;
     cut(name, &block, slice, setup, order, room);
+}
+
+// Combines two cuts, of which the second answered 1.
+pub fn combines(name: &[u8], a: Setup, b: Setup) {
+    match cuts::combined(a, b, 1) {
+        Combination::One { setup: _ } => print(0, name),
+        Combination::Sparse => print(12, name),
+    }
 }
 
 // Opens what a cut writes.

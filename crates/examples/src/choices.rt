@@ -1,4 +1,4 @@
-// What is chosen of accepted blocks: the boundaries of refusals 9 to 13, and that what a cut writes is accepted.
+// What is chosen of accepted blocks: the boundaries of refusals 9 to 13, that what a cut writes is accepted, and which cuts are combined.
 use crate::asks;
 use cuts::Setup;
 
@@ -8,6 +8,7 @@ pub fn all() {
     cut();
     cut_under();
     written();
+    combined();
 }
 
 // 9 to 11 of a point
@@ -129,6 +130,42 @@ fn written() {
         5,
         last,
         0,
+    );
+}
+
+// 12 of two cuts as one: SP's product, and FP
+fn combined() {
+    let first = setup(16384, 0, 0, 0);
+    asks::combines(
+        b"cuts with SP 3, FP 1 and SP 2, FP 1",
+        setup(3, 0, 1, 0),
+        setup(2, 0, 1, 0),
+    );
+    asks::combines(
+        b"cuts with SP 16,384 and SP 16,383",
+        first,
+        setup(16383, 0, 0, 0),
+    );
+    asks::combines(b"cuts with SP 16,384 and SP 16,384", first, first);
+    asks::combines(
+        b"cuts with SP 0 and SP 268,435,455",
+        setup(0, 0, 0, 0),
+        setup(268435455, 0, 0, 0),
+    );
+    asks::combines(
+        b"cuts with SP 0 and SP 268,435,456",
+        setup(0, 0, 0, 0),
+        setup(268435456, 0, 0, 0),
+    );
+    asks::combines(
+        b"cuts with SP 16,384, FP 16,383 and FP 262,143",
+        setup(16384, 0, 16383, 0),
+        setup(1, 0, 262143, 0),
+    );
+    asks::combines(
+        b"cuts with SP 16,384, FP 16,384 and FP 262,143",
+        setup(16384, 0, 16384, 0),
+        setup(1, 0, 262143, 0),
     );
 }
 

@@ -1,4 +1,4 @@
-// Runs the lines of "Checked examples" that have no star and the boundaries of each refusal, opens what cuts write, and asks for the marks of
+// Runs the lines of "Checked examples" that have no star and the boundaries of each refusal, opens what cuts write, combines cuts, and asks for the marks of
 // samples at the rail and beside it: prints the number of each case and the case in words.
 mod asks;
 mod blocks;
