@@ -5,7 +5,7 @@ use Prim.Native.Nat.{ℕ, _+_, _*_, _≤_, max}
 use native.Mathlib.Omega.{arith}
 use mathlib.Core.List.{List, [], _∷_, _++_, head-eq-of-cons-eq}
 use lib.ListN.{length, length-append}
-use Rattle.rules.specs.Cut.{Setup, step, orElse}
+use Rattle.rules.specs.Cut.{step, orElse}
 use Rattle.rules.proofs.Cuts.{orElse-assoc, place-cut, step-cut}
 use Rattle.chains.specs.Chain.{Made, asOne, inTurn, uncut, Group, alone, both, cutsIn, grouped}
 

@@ -3,7 +3,7 @@ use Prim.Native.Nat.{ℕ}
 use mathlib.Core.List.{List, [], _∷_, map}
 use lib.ListN.{drop}
 use lib.IntN.{ℤ, pos}
-use Rattle.rules.specs.Cut.{Setup, cutBytes, combinedRefusal}
+use Rattle.rules.specs.Cut.{Setup, combinedRefusal}
 use Rattle.rules.specs.Examples.{setup, sequence, ten}
 use Rattle.chains.specs.Chain.{Asking, chainBytes, chainRefusal, Made, allMade, singleSetup, alone, both, grouped}
 

@@ -1,19 +1,11 @@
 -- SP's product and FP are worked out in 64 bits, where neither is too long, and each is one test.
-use Prim.Native.Nat.{ℕ, _+_, _*_, _≤_, _<_}
-use native.Mathlib.Nat.{mul-le-mul}
 use native.Mathlib.Omega.{arith}
 use Rattle.cuts.specs.Cuts.{setupAs}
+use Rattle.cuts.proofs.Asking.{word-product}
 use Rattle.cuts.proofs.Combining.{sp-above, fp-above, one-setup}
 use borrow.Author.Needs.{needs}
 use Rattle.cuts.proofs.combined.Statement.{statement}
 use Rattle.cuts.proofs.combined.Tie as tie
-
--- a product of two numbers of 32 bits, and one more such number, fit 64 bits
-product : (x y : ℕ) → x < 4294967296 → y < 4294967296 → x * y ≤ 18446744065119617025
-product x y h k = omega (arith, mul-le-mul (left x h) (left y k))
-  where
-    left : (x : ℕ) → x < 4294967296 → x ≤ 4294967295
-    left x h = omega arith
 
 at-least-one-requires : tie.Need-at-least-one-requires
 at-least-one-requires c κs = search needs
@@ -28,7 +20,7 @@ cast-sp : tie.Need-cast-sp
 cast-sp c = search needs
 
 mul-sp : tie.Need-mul-sp
-mul-sp c = omega (arith, product (c .before .at-least-one .result) (c .at-least-one2 .result) (omega arith) (omega arith))
+mul-sp c = omega (arith, word-product (c .before .at-least-one .result) (c .at-least-one2 .result) (omega arith) (omega arith))
 
 returns : tie.Need-returns
 returns c =
@@ -44,12 +36,12 @@ cast-fp-2 c = search needs
 mul-fp : tie.Need-mul-fp
 mul-fp c =
     let p : tie.After-at-least-one2 = c .before .before .before in
-    omega (arith, product (p .before .at-least-one .result) (p .before .before .args .b .fp) (omega arith) (omega arith))
+    omega (arith, word-product (p .before .at-least-one .result) (p .before .before .args .b .fp) (omega arith) (omega arith))
 
 add-fp : tie.Need-add-fp
 add-fp c =
     let p : tie.After-at-least-one2 = c .before .before .before in
-    omega (arith, product (p .before .at-least-one .result) (p .before .before .args .b .fp) (omega arith) (omega arith))
+    omega (arith, word-product (p .before .at-least-one .result) (p .before .before .args .b .fp) (omega arith) (omega arith))
 
 returns-2 : tie.Need-returns-2
 returns-2 c =
