@@ -3,7 +3,7 @@
 -- grouped (`groups-answer`, `groups-answered`), where each call is for what those before it gave (`folded-single`, `combines-grouped`).
 use mathlib.Core.Path.{_≡_, refl, sym, ap, ap₂, _∙_, subst, transport}
 use mathlib.Core.List.{List, [], _∷_, _++_, map, map-append, head-eq-of-cons-eq, tail-eq-of-cons-eq}
-use Prim.Native.Nat.{ℕ}
+use Prim.Native.Nat.{ℕ, _≤_}
 use native.Mathlib.Omega.{arith}
 use lib.ListN.{length}
 use Rattle.rules.specs.Numbers.{Bytes}
@@ -68,6 +68,14 @@ module _ {X : Type 0} (asks : X → Asking) (counted : X → ℕ) (written : X �
     last-call s b x (y ∷ ys) r = last-call (blockBy s (asks x)) (own-bytes s b x (r .0)) y ys (behind s b x (r .0) (y ∷ ys) (r .1))
 
     module _ (s : List ℕ) (b : Bytes s) (x : X) (xs : List X) (row : InRow s (x ∷ xs)) where
+      -- the last call had room for what it wrote
+      pub last-room : length (written (lastOf x xs)) ≤ asks (lastOf x xs) .room
+      last-room =
+          let l = last-call s b x xs row in
+          let y : Asking = asks (lastOf x xs) in
+          let c : CutBy (l .0) (lastOf x xs) = own (l .0) (l .1) (lastOf x xs) (l .2) in
+          subst (λ (t : List ℕ). length t ≤ y .room) (sym (c .writes)) (cut-says (l .0) (y .order) (y .setup) (y .room) (c .taken) .room)
+
       pub row-stands : OneCut s (asks (lastOf x xs) .order) (singleSetup (map answeredBy (x ∷ xs))) (written (lastOf x xs)) (counted (lastOf x xs))
       row-stands =
           let c = row-chain s b (x ∷ xs) row in

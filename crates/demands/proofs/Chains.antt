@@ -1,7 +1,7 @@
 -- Calls of `cut` in a row, each of the block that the one before it wrote, all of which answered 0: one call with the single setup, worked out from their
--- setups and answers, does what the last did (`cuts-as-one`), and its numbers fit 32 bits (`single-fits`). Calls of `combined` work it out: one for each
--- cut in turn (`combined-in-turn`), or for groups of them, however they are grouped (`combined-groups`; no call for smaller groups is refused by 12 either,
--- `groups-fit`).
+-- setups and answers, does what the last did (`cuts-as-one`), given its room (`last-room`); the numbers of that setup fit 32 bits (`single-fits`). Calls of
+-- `combined` work it out: one for each cut in turn (`combined-in-turn`), or for groups of them, however they are grouped (`combined-groups`; no call for
+-- smaller groups is refused by 12 either, `groups-fit`).
 use mathlib.Core.Path.{_≡_, refl, sym, ap, _∙_, subst, subst₂}
 use mathlib.Core.List.{List, [], _∷_, _++_, map}
 use Prim.Native.Nat.{ℕ, _≤_}
@@ -88,6 +88,12 @@ module _ (s : List ℕ) (bytes : Bytes s) (x : Cutting) (xs : List Cutting) (cal
   -- the numbers of the single setup fit 32 bits
   pub single-fits : Small single
   single-fits = stands .small
+
+  -- the room of the last is enough for what it wrote
+  pub last-room : last .answer .length ≤ length (last .out)
+  last-room =
+      let l = row.last-call asks counted written Accepted cut-by s bytes x xs calls in
+      subst (λ (w : Written). w .length ≤ length (last .out)) (sym (own-answer (l .0) last (l .2))) (row.last-room asks counted written Accepted cut-by s bytes x xs calls)
 
   -- One call for s with the single setup and the order of the last, lent room for what the last wrote: it answers what the last answered and writes the
   -- same block; and where `point` answers 0 on that block, it answers the same on s, value, time and mark bit for bit

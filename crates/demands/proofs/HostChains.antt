@@ -1,6 +1,6 @@
--- The same of the calls for a host in C: calls of `tessarquin_cut` in a row that all returned 0 are one call with the single setup (`cuts-as-one`), whose
--- numbers fit 32 bits (`single-fits`) and which calls of `tessarquin_combined` leave, one for each cut in turn (`combined-in-turn`), or for groups of
--- them, however they are grouped (`combined-groups`; no call for smaller groups returns 12 either, `groups-fit`).
+-- The same of the calls for a host in C: calls of `tessarquin_cut` in a row that all returned 0 are one call with the single setup (`cuts-as-one`), given the
+-- room of the last (`last-room`). Its numbers fit 32 bits (`single-fits`), and calls of `tessarquin_combined` leave them, one for each cut in turn
+-- (`combined-in-turn`), or for groups of them, however they are grouped (`combined-groups`; no call for smaller groups returns 12 either, `groups-fit`).
 use mathlib.Core.Path.{_≡_, refl, sym, ap, _∙_, subst, subst₂}
 use mathlib.Core.List.{List, [], _∷_, _++_, map}
 use Prim.Native.Nat.{ℕ, _≤_, _<_}
@@ -71,6 +71,12 @@ module _ (s : List ℕ) (bytes : Bytes s) (x : Cutting) (xs : List Cutting) (cal
   -- the numbers of the single setup fit 32 bits
   pub single-fits : Small single
   single-fits = stands .small
+
+  -- the room of the last is enough for what it wrote
+  pub last-room : lengthIn (last .told) ≤ length (last .out)
+  last-room =
+      let l = row.last-call asks counted written Accepted cut-by s bytes x xs calls in
+      subst (λ (n : ℕ). n ≤ length (last .out)) (sym (own-wrote (l .0) (l .1) last (l .2) .long)) (row.last-room asks counted written Accepted cut-by s bytes x xs calls)
 
   -- One call for s with the single setup and the order of the last, lent room for what the last wrote and for two numbers: it returns 0, leaves the numbers
   -- and the block that the last left; and where `tessarquin_point` returns 0 on that block, it leaves the same for s
