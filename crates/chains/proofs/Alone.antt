@@ -8,13 +8,12 @@ use lib.ListN.{length}
 use Rattle.rules.specs.Numbers.{Bytes, upFrom}
 use Rattle.rules.specs.Wave.{Wave, sizeOf, segments, points, sparsing, firstPoint, segmentIndex, subarrayCount, encode, framed}
 use Rattle.rules.specs.Rules.{opened}
-use Rattle.rules.specs.Points.{pointRefusal}
 use Rattle.rules.specs.Cut.{Setup, step, thinned, limited, only, kept, count, changed, orElse, oneIf, cut, cutBytes, cutRefusal}
 use Rattle.rules.proofs.Rows.{Rows, Shape, map-rows, only-rows}
 use Rattle.rules.proofs.Thin.{prefix-limited, limited-prefix, count-pos, count-kept}
 use Rattle.rules.proofs.Cuts.{Taken, kept-nil}
 use Rattle.rules.proofs.Opened.{shape-opened}
-use Rattle.rules.proofs.Demands.{Allowed, CutTaken, cut-says, says-cut, KeptPoint, point-kept, OneCut, cut-small}
+use Rattle.rules.proofs.Demands.{Allowed, CutTaken, cut-says, OneCut, cut-stands}
 use Rattle.chains.specs.Chain.{asOne, uncut}
 use Rattle.chains.proofs.Groups.{uncut-one}
 
@@ -97,16 +96,7 @@ module _ (s : List ℕ) (b : Bytes s) (o : ℕ) (c : Setup) (n : ℕ) (e : cutRe
   }
 
   itself-stands : OneCut s o (itself c m) (cutBytes o c s) m
-  itself-stands =
-      let taken : (room : ℕ) → length (cutBytes o c s) ≤ room → cutRefusal o (itself c m) s room ≡ 0 =
-      λ room l. says-cut s o (itself c m) room (record { block = t .block; allows = allowed; room = subst (λ (x : List ℕ). length x ≤ room) (sym same-bytes) l }) in
-      record {
-        taken = taken;
-        same-count = same-count;
-        same-bytes = same-bytes;
-        same-points = subst (λ (u : List ℕ). (x g k : ℕ) → pointRefusal u x g k ≡ 0 → KeptPoint s u (itself c m) x g k) same-bytes (point-kept s b o (itself c m) n (taken n (t .room)));
-        small = cut-small s b (t .block) o (itself c m) allowed (sym same-count);
-      }
+  itself-stands = cut-stands s b (t .block) o (itself c m) allowed (cutBytes o c s) same-bytes same-count
 
   -- by itself it is the cut with nothing cut before it
   pub stands-alone : OneCut s o (asOne uncut (c, m) .0) (cutBytes o c s) m

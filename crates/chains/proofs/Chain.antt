@@ -18,9 +18,9 @@ first-taken : (s : List ℕ) (x : Asking) (xs : List Asking) → chainRefusal s 
 first-taken s x xs e = orElse-none (cutRefusal (x .order) (x .setup) s (x .room)) (chainRefusal (blockBy s x) xs) e
 
 -- the final bytes have room where the last cut had it
-last-room : (t : List ℕ) (x : Asking) (xs : List Asking) → chainRefusal t (x ∷ xs) ≡ 0 → length (chainBytes t (x ∷ xs)) ≤ lastOf x xs .room
-last-room t x [] e = cut-says t (x .order) (x .setup) (x .room) (first-taken t x [] e .0) .room
-last-room t x (y ∷ ys) e = last-room (blockBy t x) y ys (first-taken t x (y ∷ ys) e .1)
+pub final-room : (t : List ℕ) (x : Asking) (xs : List Asking) → chainRefusal t (x ∷ xs) ≡ 0 → length (chainBytes t (x ∷ xs)) ≤ lastOf x xs .room
+final-room t x [] e = cut-says t (x .order) (x .setup) (x .room) (first-taken t x [] e .0) .room
+final-room t x (y ∷ ys) e = final-room (blockBy t x) y ys (first-taken t x (y ∷ ys) e .1)
 
 module _ (s : List ℕ) (b : Bytes s) where
   -- one more cut, y of the t that was written, is taken into the one that stands for those before: demand 3
@@ -49,7 +49,7 @@ module _ (s : List ℕ) (b : Bytes s) where
 
   -- so the one cut is accepted given the room of the last
   pub chain-room : (x : Asking) (xs : List Asking) → chainRefusal s (x ∷ xs) ≡ 0 → cutRefusal (lastOf x xs .order) (singleSetup (allMade s (x ∷ xs))) s (lastOf x xs .room) ≡ 0
-  chain-room x xs e = chain x xs e .taken (lastOf x xs .room) (last-room s x xs e)
+  chain-room x xs e = chain x xs e .taken (lastOf x xs .room) (final-room s x xs e)
 
   -- two groups of all the cuts give that setup too
   pub chain-grouped : (x : Asking) (xs : List Asking) → chainRefusal s (x ∷ xs) ≡ 0 → (g h : Group) → cutsIn (both g h) ≡ allMade s (x ∷ xs)

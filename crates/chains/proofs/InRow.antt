@@ -1,7 +1,7 @@
 -- Calls in a row, each of the block that the one before it wrote, whatever kind of call it is: the single setup of their setups and answers stands for them
 -- (`row-stands`). Calls that work out combined setups give it, one for each cut in turn (`in-turn-answers`), or for groups of the cuts, however they are
 -- grouped (`groups-answer`, `groups-answered`), where each call is for what those before it gave (`folded-single`, `combines-grouped`).
-use mathlib.Core.Path.{_≡_, refl, sym, ap, ap₂, _∙_, subst, transport}
+use mathlib.Core.Path.{_≡_, refl, sym, ap, ap₂, _∙_, subst, subst₂, transport}
 use mathlib.Core.List.{List, [], _∷_, _++_, map, map-append, head-eq-of-cons-eq, tail-eq-of-cons-eq}
 use Prim.Native.Nat.{ℕ, _≤_}
 use native.Mathlib.Omega.{arith}
@@ -11,7 +11,7 @@ use Rattle.rules.specs.Cut.{Setup, orElse, cutRefusal, combined, combinedRefusa
 use Rattle.rules.proofs.Demands.{CutTaken, cut-says, cut-bytes, Small, OneCut, combined-answered}
 use Rattle.chains.specs.Chain.{Asking, blockBy, chainBytes, chainRefusal, lastOf, Made, made, allMade, inTurn, uncut, singleSetup, Group, alone, both, cutsIn, grouped}
 use Rattle.chains.proofs.Groups.{turn-append, two-cuts, grouped-both}
-use Rattle.chains.proofs.Chain.{chain, Answered, chain-answered}
+use Rattle.chains.proofs.Chain.{final-room, chain, Answered, chain-answered}
 
 -- a call for the setups a and b, of which b answered n, is not refused by 12 and gives c, whose numbers fit 32 bits
 pub record Answers (a b : Setup) (n : ℕ) (c : Setup) : Type 0 where
@@ -71,10 +71,8 @@ module _ {X : Type 0} (asks : X → Asking) (counted : X → ℕ) (written : X �
       -- the last call had room for what it wrote
       pub last-room : length (written (lastOf x xs)) ≤ asks (lastOf x xs) .room
       last-room =
-          let l = last-call s b x xs row in
-          let y : Asking = asks (lastOf x xs) in
-          let c : CutBy (l .0) (lastOf x xs) = own (l .0) (l .1) (lastOf x xs) (l .2) in
-          subst (λ (t : List ℕ). length t ≤ y .room) (sym (c .writes)) (cut-says (l .0) (y .order) (y .setup) (y .room) (c .taken) .room)
+          subst₂ (λ (t : List ℕ) (y : Asking). length t ≤ y .room) (sym (last-call s b x xs row .3)) (last-map asks x xs)
+          (final-room s (asks x) (map asks xs) (row-chain s b (x ∷ xs) row .0))
 
       pub row-stands : OneCut s (asks (lastOf x xs) .order) (singleSetup (map answeredBy (x ∷ xs))) (written (lastOf x xs)) (counted (lastOf x xs))
       row-stands =
