@@ -1,6 +1,6 @@
 -- What a cut writes of a table, as bytes of the block: `trig-items` and `array-rows`, over the width, the rows and the setup.
 use mathlib.Core.Path.{_≡_, refl, sym, ap, _∙_}
-use mathlib.Core.List.{List, [], _∷_, _++_, map, flatten, append-assoc, append-nil}
+use mathlib.Core.List.{List, [], _∷_, _++_, map, flatten}
 use Prim.Native.Nat.{ℕ, zero, suc, _+_, _-_, _*_, _≤_, _<_}
 use native.Mathlib.Nat.{suc-mul, zero-mul}
 use native.Mathlib.Omega.{arith}
@@ -10,7 +10,7 @@ use lib.Seq.{drop-drop, getD-take, getD-drop}
 use Rattle.rules.specs.Numbers.{Bytes, number, bytes, numbers, allBytes}
 use Rattle.rules.specs.Wave.{table}
 use Rattle.rules.specs.Cut.{Setup, step, only, kept, count, oneIf}
-use Rattle.rules.proofs.Numbers.{below-take, below-drop}
+use Rattle.rules.proofs.Numbers.{below-take, below-drop, allBytes-append}
 use Rattle.rules.proofs.Samples.{row-is, number-at}
 use Rattle.rules.proofs.Slices.{part-take}
 use Rattle.rules.proofs.Thin.{count-kept, count-reach, getD-kept}
@@ -18,15 +18,11 @@ use Rattle.rules.proofs.Rows.{Rows, only-rows}
 use Rattle.rules.proofs.Cuts.{kept-rows, kept-nil}
 use Rattle.rules.proofs.Waves.{length-numbers, table-is, table-rows}
 use Rattle.copies.specs.Copies.{inOrder, gather, part, items, rowsOf}
-use Rattle.copies.proofs.Laws.{gather-cong, gather-add, length-part}
+use Rattle.copies.proofs.Laws.{gather-cong, gather-add, gather-cons, allBytes-gather, length-part}
 use Rattle.copies.proofs.Items.{rows-room}
 use Rattle.copies.proofs.Head.{number-turned}
 
 -- ---- lists put together
-
-pub gather-cons : (f : ℕ → List ℕ) (n : ℕ) → gather f (suc n) ≡ f 0 ++ gather (λ k. f (suc k)) n
-gather-cons f zero = sym (append-nil (f 0))
-gather-cons f (suc n) = ap (λ (r : List ℕ). r ++ f (suc n)) (gather-cons f n) ∙ append-assoc (f 0) (gather (λ k. f (suc k)) n) (f (suc n))
 
 -- rows of n are one row
 pub gather-gather : (f : ℕ → List ℕ) (g n : ℕ) → gather (λ i. gather (λ j. f (i * n + j)) n) g ≡ gather f (g * n)
@@ -40,21 +36,11 @@ part-part l from n k w h = part-take w k n (drop from l) h ∙ ap (take w) (drop
 -- ---- numbers
 
 module _ (q w : ℕ) where
-  pub allBytes-gather : (xs : List ℕ) → allBytes q w xs ≡ gather (λ j. bytes q w (getD xs j 0)) (length xs)
-  unfolding flatten
-  allBytes-gather [] = refl
-  allBytes-gather (x ∷ xs) = ap (λ (r : List ℕ). bytes q w x ++ r) (allBytes-gather xs) ∙ sym (gather-cons (λ j. bytes q w (getD (x ∷ xs) j 0)) (length xs))
-
-  allBytes-append : (xs ys : List ℕ) → allBytes q w (xs ++ ys) ≡ allBytes q w xs ++ allBytes q w ys
-  unfolding flatten
-  allBytes-append [] ys = refl
-  allBytes-append (x ∷ xs) ys = ap (λ (r : List ℕ). bytes q w x ++ r) (allBytes-append xs ys) ∙ sym (append-assoc (bytes q w x) (allBytes q w xs) (allBytes q w ys))
-
   pub flat-gather : (t : List (List ℕ)) → allBytes q w (flatten t) ≡ gather (λ i. allBytes q w (getD t i [])) (length t)
   unfolding flatten
   flat-gather [] = refl
   flat-gather (r ∷ rs) =
-      allBytes-append r (flatten rs) ∙ ap (λ (x : List ℕ). allBytes q w r ++ x) (flat-gather rs) ∙ sym (gather-cons (λ i. allBytes q w (getD (r ∷ rs) i [])) (length rs))
+      allBytes-append q w r (flatten rs) ∙ ap (λ (x : List ℕ). allBytes q w r ++ x) (flat-gather rs) ∙ sym (gather-cons (λ i. allBytes q w (getD (r ∷ rs) i [])) (length rs))
 
 -- ---- numbers that stand in the block from `from`
 

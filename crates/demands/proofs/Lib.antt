@@ -5,3 +5,5 @@ pub mod Back
 pub mod Circle
 pub mod Chains
 pub mod HostChains
+pub mod Narrowings
+pub mod HostNarrowings

@@ -95,6 +95,33 @@ pub fn counts(name: &[u8], samples: &[u8], kind: u16, order: u16)
     print_in(order, f.marks, name);
 }
 
+// Narrows a block with these samples and this gain to so many bytes.
+pub fn narrows(name: &[u8], samples: &[u8], kind: u16, order: u16, gain: u32, room: usize)
+    requires { ⌜ length (now samples) ≤ 12 ⌝ }
+{
+    let mut block = [0u8; 512];
+    blocks::make_of(samples, kind, order, &mut block);
+    blocks::put_gain(gain, order, &mut block);
+    let slice = 11 + 346 + samples.len();
+    narrow(name, &block, slice, order, room);
+}
+
+// Narrows a block with these words, and asks whether sample k is this byte: 0 or 1.
+pub fn floors(name: &[u8], samples: &[u8; 12], order: u16, k: usize, byte: u8)
+    requires { ⌜ k ≤ 5 ⌝ }
+{
+    let mut block = [0u8; 512];
+    blocks::make_of(samples, 1, order, &mut block);
+    let mut out = [0u8; 512];
+    narrows::narrow(first(&block, 369), &mut out);
+    let sample = out[11 + 346 + k];
+    if sample == byte {
+        print_in(order, 1, name);
+    } else {
+        print_in(order, 0, name);
+    }
+}
+
 // Cuts to so many bytes.
 pub fn cuts(name: &[u8], shape: u32, setup: Setup, order: u32, room: usize) {
     let mut block = [0u8; 512];
@@ -128,6 +155,14 @@ fn cut(name: &[u8], block: &[u8; 512], slice: usize, setup: Setup, order: u32, r
     let most = within(room, 512);
     let w = cuts::cut(first(block, slice), setup, order, &mut out[..most]);
     print(w.refusal, name);
+}
+
+// Narrows the first `slice` bytes of a block to so many bytes.
+fn narrow(name: &[u8], block: &[u8; 512], slice: usize, order: u16, room: usize) {
+    let mut out = [0u8; 512];
+    let most = within(room, 512);
+    let w = narrows::narrow(first(block, slice), &mut out[..most]);
+    print_in(order, w.refusal, name);
 }
 
 // Opens the first `slice` bytes of a block with two numbers stored over it.

@@ -55,6 +55,11 @@ pub fn make_of(samples: &[u8], kind: u16, order: u16, out: &mut [u8; 512])
     copies::copy_bytes(samples, 0, samples.len(), out, 11 + 346);
 }
 
+// The bits of VERTICAL_GAIN stored over a block.
+pub fn put_gain(gain: u32, order: u16, out: &mut [u8; 512]) {
+    numbers::put_u32(gain, order as u32, out, 11 + 156);
+}
+
 // The scope document's example under another header, at the start of out.
 pub fn make_under(header: &[u8], out: &mut [u8; 512])
     requires { ⌜ length (now header) ≤ 11 ⌝ }

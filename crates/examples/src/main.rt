@@ -1,13 +1,15 @@
-// Runs the lines of "Checked examples" that have no star and the boundaries of each refusal, opens what cuts write, combines cuts, and asks for the marks of
-// samples at the rail and beside it: prints the number of each case and the case in words.
+// Runs the lines of "Checked examples" that have no star and the boundaries of each refusal, opens what cuts write, combines cuts, asks for the marks of
+// samples at the rail and beside it, and narrows words to bytes: prints the number of each case and the case in words.
 mod asks;
 mod blocks;
 mod choices;
 mod judged;
 mod marks;
+mod narrowings;
 
 fn main() {
     judged::all();
     choices::all();
     marks::all();
+    narrowings::all();
 }

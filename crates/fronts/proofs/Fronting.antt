@@ -12,12 +12,11 @@ use Rattle.rules.specs.Rules.{payloadStart, refusal, opened}
 use Rattle.rules.specs.Cut.{changed}
 use Rattle.rules.proofs.Numbers.{length-laid}
 use Rattle.rules.proofs.Template.{total-template}
-use Rattle.rules.proofs.Slices.{payload-head}
-use Rattle.rules.proofs.Opened.{sized-opened, payload-there, fits-opened, good-opened}
+use Rattle.rules.proofs.Opened.{sized-opened, payload-there, fits-opened, good-opened, head-there}
 use Rattle.rules.proofs.Samples.{part-within}
 use Rattle.copies.specs.Copies.{part}
 use Rattle.heads.specs.Heads.{changesBy}
-use Rattle.parts.proofs.Tables.{order-there, long-there, stretch-there}
+use Rattle.parts.proofs.Tables.{long-there, stretch-there}
 use Rattle.fronts.specs.declared.Lead.{Lead}
 use Rattle.fronts.specs.Fronts.{changesFor, Fronting}
 
@@ -26,11 +25,6 @@ use Rattle.fronts.specs.Fronts.{changesFor, Fronting}
 module _ (p : List ℕ) (b : Bytes p) (e : refusal p ≡ 0) where
   pub head-room : payloadStart p + 346 ≤ length p
   head-room = omega (arith, sized-opened p b e .least, payload-there p b e)
-
-  -- its descriptor, read by its order
-  pub head-is : headAt (orderOf (opened p .head)) (payloadStart p) p ≡ opened p .head
-  unfolding opened decode waveOf
-  head-is = ap (λ (k : ℕ). headAt k (payloadStart p) p) (sym (order-there p b e)) ∙ payload-head p (payload-there p b e) (sized-opened p b e .least)
 
   -- a long of it
   pub long-at : (start o : ℕ) → start ≡ payloadStart p → o ≡ orderOf (opened p .head) → (k : ℕ) → widthAt template k ≡ 4 → number o (take 4 (drop (start + k) p)) ≡ opened p .head k
@@ -121,7 +115,7 @@ module _ (p : List ℕ) (b : Bytes p) (lead : Lead) (n : ℕ) (g : Fronting p le
           sparsing = opened p .head 136;
           index = 0;
           subarrays = n;
-        })) (head-is p b (g .good) i)))
+        })) (head-there p b (g .good) i)))
 
   pub text-out : part p (lead .start + 346) (getD (lead .lengths) 1 0) ≡ opened p .text
   text-out = ap (λ (x : Lead). part p (x .start + 346) (getD (x .lengths) 1 0)) (g .leads) ∙ text-is p b (g .good)

@@ -16,7 +16,7 @@ use Rattle.rules.proofs.Opened.{fits-opened, shape-opened, good-opened}
 use Rattle.rules.proofs.Demands.{CutTaken, cut-says, says-cut, cut-accepted}
 use Rattle.joining.specs.Join.{indexOf, indexed, partAt, partsIn, joinedBytes, joinRefusal}
 use Rattle.joining.proofs.Lists.{Every}
-use Rattle.joining.proofs.Fields.{Agree, instead-out, agree}
+use Rattle.rules.proofs.Fields.{Agree, instead-out, agree}
 use Rattle.joining.proofs.Parts.{parts-bytes}
 use Rattle.joining.proofs.Index.{Within, every-at-index, index-at}
 use Rattle.joining.proofs.Says.{Joins, join-says}

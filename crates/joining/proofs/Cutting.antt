@@ -18,7 +18,7 @@ use Rattle.rules.proofs.Rows.{Rows}
 use Rattle.rules.proofs.Opened.{rules-numbered}
 use Rattle.joining.specs.Join.{partAt, partsIn, joinChanges, joined, joinedBytes, joinRefusal}
 use Rattle.joining.proofs.Lists.{Every, every-map, every-getD, only-one, no-elements}
-use Rattle.joining.proofs.Fields.{instead-out, instead-same}
+use Rattle.rules.proofs.Fields.{instead-out, instead-same}
 use Rattle.joining.proofs.Parts.{parts-bytes}
 use Rattle.joining.proofs.Index.{Within, every-at-index, index-at}
 use Rattle.joining.proofs.Says.{Joins, join-says}

@@ -1,5 +1,4 @@
 pub mod Lists
-pub mod Fields
 pub mod Parts
 pub mod Index
 pub mod Says

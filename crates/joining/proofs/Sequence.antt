@@ -20,7 +20,7 @@ use Rattle.rules.proofs.Opened.{shape-opened}
 use Rattle.rules.proofs.Demands.{Allowed, CutTaken, cut-says, says-cut, cut-length, cut-accepted}
 use Rattle.joining.specs.Join.{indexOf, indexed, partAt, byIndex, partsIn, joinChanges, joined, joinedBytes, common, joinRefusal}
 use Rattle.joining.proofs.Lists.{Every, every-mapped, Every-upFrom, perm-every, map-upFrom, getD-upFrom}
-use Rattle.joining.proofs.Fields.{instead-out, agree}
+use Rattle.rules.proofs.Fields.{instead-out, agree}
 use Rattle.joining.proofs.Framed.{start-framed}
 use Rattle.joining.proofs.Parts.{Ends, parts-flatten}
 use Rattle.joining.proofs.Index.{Within}

@@ -7,10 +7,10 @@ use lib.Seq.{take-append-seam}
 use contract.Lifetimes.{Lfts}
 use denote.Ref.{RefT, at-last as holding}
 use Rattle.rules.specs.Numbers.{splice, unlessRefused}
+use Rattle.rules.proofs.Tests.{left-alone}
 use Rattle.joining.specs.Join.{partsIn, joinedBytes, joinRefusal}
 use Rattle.joins.specs.declared.Joined.{Joined}
 use Rattle.joins.specs.Joins.{answer, joinedAs, outAs}
-use Rattle.joins.proofs.Joining.{left-alone}
 use Rattle.joins.proofs.join.Reads as reads
 
 -- ---- what a call answered and left

@@ -15,6 +15,7 @@ use Rattle.rules.specs.Rules.{all, refusal, opened}
 use Rattle.rules.specs.Cut.{changed, orElse}
 use Rattle.rules.proofs.Numbers.{length-laid}
 use Rattle.rules.proofs.Template.{total-template}
+use Rattle.rules.proofs.Tests.{left-alone}
 use Rattle.rules.proofs.Frames.{length-framed}
 use Rattle.rules.proofs.Opened.{fits-opened}
 use Rattle.copies.specs.Copies.{header}
@@ -110,10 +111,6 @@ module _ (s : List ℕ) (b : Bytes s) (lead : Lead) (n end total : ℕ) (g : Rea
 answered : (m : ℕ) (w : Joined) (count long : ℕ) → (m ≡ 0 → ⊥) → w ≡ refusedAs m → w ≡ answer m count long
 answered zero w count long h e = absurd (h refl)
 answered (suc m) w count long h e = e
-
-pub left-alone : (m : ℕ) (new old : List ℕ) → (m ≡ 0 → ⊥) → old ≡ unlessRefused m new old
-left-alone zero new old h = absurd (h refl)
-left-alone (suc m) new old h = refl
 
 module _ (s : List ℕ) (b : Bytes s) (out : List ℕ) where
   refuses : (m : ℕ) → m ≡ joinRefusal s (length out) → (m ≡ 0 → ⊥) → (w : Joined) → w ≡ refusedAs m → (w ≡ joinedAs s (length out)) × (out ≡ outAs s out)

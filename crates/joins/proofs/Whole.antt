@@ -15,7 +15,7 @@ use Rattle.copies.specs.Copies.{header}
 use Rattle.heads.specs.Heads.{changesBy}
 use Rattle.joining.specs.Join.{partAt, byIndex, joined, joinedBytes, common, joinChanges}
 use Rattle.joining.proofs.Lists.{Every, no-elements}
-use Rattle.joining.proofs.Fields.{Out, instead-out, agree}
+use Rattle.rules.proofs.Fields.{Out, instead-out, agree}
 use Rattle.joining.proofs.Index.{every-at-index}
 use Rattle.joining.proofs.Says.{Together}
 use Rattle.joining.proofs.Alike.{texts-alike}

@@ -7,11 +7,11 @@ use lib.ListN.{length, getD, take, drop}
 use Rattle.rules.specs.Numbers.{Bytes, number}
 use Rattle.rules.specs.Template.{template, widthAt}
 use Rattle.rules.specs.Rules.{payloadStart, refusal, opened}
-use Rattle.rules.proofs.Opened.{sized-opened, payload-there}
+use Rattle.rules.proofs.Opened.{sized-opened, payload-there, order-there}
 use Rattle.copies.specs.Copies.{part}
 use Rattle.parts.specs.Parts.{this}
 use Rattle.parts.proofs.Standing.{reach, in-slice, byte-in}
-use Rattle.parts.proofs.Tables.{order-there, long-there}
+use Rattle.parts.proofs.Tables.{long-there}
 
 module _ (s : List ℕ) (at start : ℕ) (h : at < length s) (b : Bytes (this s at)) (z : refusal (this s at) ≡ 0) (e : start ≡ at + payloadStart (this s at)) where
   pub descriptor-there : start + 346 ≤ length s

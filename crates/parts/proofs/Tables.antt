@@ -15,10 +15,10 @@ use Rattle.rules.specs.Rules.{payloadStart, stated, payload, refusal, opened, f
 use Rattle.rules.proofs.Every.{every-at, every-row}
 use Rattle.rules.proofs.Rows.{Rows, total-rows}
 use Rattle.rules.proofs.Samples.{cell}
-use Rattle.rules.proofs.Waves.{order-of, part}
-use Rattle.rules.proofs.Slices.{field-is, payload-byte, payload-head, part-there, trig-read}
+use Rattle.rules.proofs.Waves.{part}
+use Rattle.rules.proofs.Slices.{field-is, part-there, trig-read}
 use Rattle.rules.proofs.Parts.{part-end}
-use Rattle.rules.proofs.Opened.{sized-opened, start-opened, payload-there, length-payload, ruled-opened, fits-opened, shape-opened, good-opened}
+use Rattle.rules.proofs.Opened.{sized-opened, start-opened, payload-there, length-payload, ruled-opened, fits-opened, shape-opened, good-opened, head-there}
 use Rattle.joining.specs.Join.{partsIn, partAt, byIndex, common}
 use Rattle.joining.proofs.Lists.{Every, every-map, every-both, every-getD, map-upFrom}
 use Rattle.joining.proofs.Parts.{Ends, parts-bytes, parts-end}
@@ -32,15 +32,11 @@ use Rattle.parts.specs.Parts.{Sound, Placeable, rowOf}
 
 module _ (p : List ℕ) (b : Bytes p) (e : refusal p ≡ 0) where
   -- COMM_ORDER, by its byte, and a long of the descriptor
-  pub order-there : getD p (payloadStart p + 34) 0 ≡ orderOf (opened p .head)
-  unfolding opened decode waveOf
-  order-there = sym (order-of (payload p) (ruled-opened p b e) ∙ payload-byte p (payload-there p b e) 34 (omega (arith, sized-opened p b e .least)))
-
   pub long-there : (o k : ℕ) → o ≡ orderOf (opened p .head) → widthAt template k ≡ 4 → number o (take 4 (drop (payloadStart p + k) p)) ≡ opened p .head k
   unfolding opened decode waveOf
   long-there o k q w =
-      field-is o 4 (payloadStart p) p k w ∙ ap (λ (x : ℕ). headAt x (payloadStart p) p k) (q ∙ sym order-there)
-      ∙ ap (λ (h : ℕ → ℕ). h k) (payload-head p (payload-there p b e) (sized-opened p b e .least))
+      field-is o 4 (payloadStart p) p k w ∙ ap (λ (x : ℕ). headAt x (payloadStart p) p k) q
+      ∙ ap (λ (h : ℕ → ℕ). h k) (head-there p b e)
 
   index-there : (o : ℕ) → o ≡ orderOf (opened p .head) → number o (take 4 (drop (payloadStart p + 140) p)) ≡ opened p .head 140
   unfolding template widthAt

@@ -33,7 +33,7 @@ lengthIn answer = number 0 (take 8 (drop 8 answer))
 
 module _ (s : List ℕ) (c : Setup) (q : ℕ) (out answer : List ℕ) (m : ℕ) (left second : List ℕ) (call : CutCall s c q out answer m left second) where
   -- with room for c and the length, the number is the cut's own
-  own : 16 ≤ length answer → m ≡ cutRefusal q c s (length out)
+  pub own : 16 ≤ length answer → m ≡ cutRefusal q c s (length out)
   unfolding cutNumber
   own h = call .4 .0 ∙ number-enough (cutRefusal q c s (length out)) (cutAnswer s c q) (length answer) (omega (arith, answer-length s c q))
 

@@ -1,10 +1,10 @@
 -- Two numbers that a call's contract allows for one input are equal, and so are the bytes left in the slices: `open-determined`, `point-determined`,
--- `fill-determined`, `cut-determined`, `combined-determined`, `join-determined`, `layout-determined`, `text-determined`, `label-determined`.
+-- `fill-determined`, `cut-determined`, `combined-determined`, `join-determined`, `narrow-determined`, `layout-determined`, `text-determined`, `label-determined`.
 use mathlib.Core.Path.{_≡_, sym, _∙_}
 use mathlib.Core.List.{List}
 use Prim.Native.Nat.{ℕ}
 use Rattle.rules.specs.Cut.{Setup}
-use Rattle.tessarquin.proofs.Learnt.{OpenCall, PointCall, FillCall, CutCall, CombinedCall, JoinCall, LayoutCall, TextCall, LabelCall}
+use Rattle.tessarquin.proofs.Learnt.{OpenCall, PointCall, FillCall, CutCall, CombinedCall, JoinCall, NarrowCall, LayoutCall, TextCall, LabelCall}
 
 pub open-determined : (s answer : List ℕ) (m n : ℕ) (x y : List ℕ) → OpenCall s answer m x → OpenCall s answer n y → (m ≡ n) × (x ≡ y)
 open-determined s answer m n x y p q = (p .3 .0 ∙ sym (q .3 .0), p .3 .1 ∙ sym (q .3 .1))
@@ -24,6 +24,9 @@ combined-determined a b c answer m n x y p q = (p .2 .0 ∙ sym (q .2 .0), p .2 
 
 pub join-determined : (s out answer : List ℕ) (m n : ℕ) (x y u v : List ℕ) → JoinCall s out answer m x u → JoinCall s out answer n y v → (m ≡ n) × (x ≡ y) × (u ≡ v)
 join-determined s out answer m n x y u v p q = (p .4 .0 ∙ sym (q .4 .0), p .4 .1 .0 ∙ sym (q .4 .1 .0), p .4 .1 .1 ∙ sym (q .4 .1 .1))
+
+pub narrow-determined : (s out answer : List ℕ) (m n : ℕ) (x y u v : List ℕ) → NarrowCall s out answer m x u → NarrowCall s out answer n y v → (m ≡ n) × (x ≡ y) × (u ≡ v)
+narrow-determined s out answer m n x y u v p q = (p .4 .0 ∙ sym (q .4 .0), p .4 .1 .0 ∙ sym (q .4 .1 .0), p .4 .1 .1 ∙ sym (q .4 .1 .1))
 
 pub layout-determined : (s answer : List ℕ) (m n : ℕ) (x y : List ℕ) → LayoutCall s answer m x → LayoutCall s answer n y → (m ≡ n) × (x ≡ y)
 layout-determined s answer m n x y p q = (p .3 .0 ∙ sym (q .3 .0), p .3 .1 ∙ sym (q .3 .1))

@@ -1,5 +1,5 @@
 -- What a caller learns of a call for C, as the checker has it from the `ensures` of the call: `OpenCall`, `PointCall`, `FillCall`, `CutCall`,
--- `CombinedCall`, `JoinCall`, `LayoutCall`, `TextCall`, `LabelCall`. A theorem over these speaks of the contract itself. `holding b s` is the slice b with the bytes s in it.
+-- `CombinedCall`, `JoinCall`, `NarrowCall`, `LayoutCall`, `TextCall`, `LabelCall`. A theorem over these speaks of the contract itself. `holding b s` is the slice b with the bytes s in it.
 use mathlib.Core.List.{List}
 use Prim.Native.Nat.{ℕ}
 use contract.Lifetimes.{Lfts}
@@ -11,6 +11,7 @@ use Rattle.tessarquin.proofs.tessarquin_fill.Reads as fill-reads
 use Rattle.tessarquin.proofs.tessarquin_cut.Reads as cut-reads
 use Rattle.tessarquin.proofs.combining.tessarquin_combined.Reads as combined-reads
 use Rattle.tessarquin.proofs.joined.tessarquin_join.Reads as join-reads
+use Rattle.tessarquin.proofs.narrowed.tessarquin_narrow.Reads as narrow-reads
 use Rattle.tessarquin.proofs.parts.tessarquin_layout.Reads as layout-reads
 use Rattle.tessarquin.proofs.parts.tessarquin_user_text.Reads as text-reads
 use Rattle.tessarquin.proofs.parts.tessarquin_label.Reads as label-reads
@@ -48,6 +49,12 @@ abbrev pub JoinCall : List ℕ → List ℕ → List ℕ → ℕ → List ℕ �
 JoinCall s out answer m left second =
     (κs : Lfts 3) × (b : RefT (List ℕ)) × (o : RefT (List ℕ)) × (a : RefT (List ℕ))
     × join-reads.Learnt κs (holding b s, (holding o out, (holding a answer, tt))) m (holding b s, (holding o left, (holding a second, tt)))
+
+-- lent a block of the bytes s, a slice for the block that is narrowed and one for its length, `tessarquin_narrow` returned m and left these bytes in the two
+abbrev pub NarrowCall : List ℕ → List ℕ → List ℕ → ℕ → List ℕ → List ℕ → Type 0
+NarrowCall s out answer m left second =
+    (κs : Lfts 3) × (b : RefT (List ℕ)) × (o : RefT (List ℕ)) × (a : RefT (List ℕ))
+    × narrow-reads.Learnt κs (holding b s, (holding o out, (holding a answer, tt))) m (holding b s, (holding o left, (holding a second, tt)))
 
 -- lent a block of the bytes s and a slice for the answer, `tessarquin_layout` returned m and left these bytes in the slice
 abbrev pub LayoutCall : List ℕ → List ℕ → ℕ → List ℕ → Type 0

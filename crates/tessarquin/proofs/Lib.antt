@@ -4,6 +4,7 @@ pub mod Filling
 pub mod Pairs
 pub mod Cutting
 pub mod Joining
+pub mod Narrowing
 pub mod Learnt
 pub mod Determined
 pub mod Headers

@@ -1,4 +1,4 @@
--- What a call with two slices returns and leaves, one for a block and one for two numbers: where the second is too short (`without-room`), refused (`refused`) or answered (`answered`).
+-- What a call with two slices returns and leaves, one for a block and one for numbers: where the second is too short (`without-room`), refused (`refused`) or answered (`answered`).
 use mathlib.Core.Path.{_≡_, refl, sym, ap, _∙_}
 use mathlib.Core.Bool.{Bool, true, false, cond}
 use mathlib.Core.List.{List}
@@ -12,8 +12,8 @@ use Rattle.rules.specs.Cut.{orElse}
 use Rattle.tessarquin.specs.Calls.{orRoom, leftBy}
 use Rattle.tessarquin.proofs.Slices.{number-own, number-none, left-as-it-was, left-written}
 
--- The call's own number for a first slice of so much room is that of the rules before 13, and then 13; `bytes` go to the first slice, the sixteen of `told` to the second
-module _ (before : ℕ) (bytes told : List ℕ) (own : ℕ → ℕ) (own-is : (room : ℕ) → own room ≡ orElse before (cond (leb (length bytes) room) 0 13)) (some : 0 < length bytes) (sixteen : length told ≡ 16)
+-- The call's own number for a first slice of so much room is that of the rules before 13, and then 13; `bytes` go to the first slice, `told` to the second
+module _ (before : ℕ) (bytes told : List ℕ) (own : ℕ → ℕ) (own-is : (room : ℕ) → own room ≡ orElse before (cond (leb (length bytes) room) 0 13)) (some : 0 < length bytes) {size : ℕ} (sized : length told ≡ size)
     (out answer : List ℕ) where
   abbrev number : ℕ
   number = orRoom (own (length out)) told (length answer)
@@ -25,11 +25,11 @@ module _ (before : ℕ) (bytes told : List ℕ) (own : ℕ → ℕ) (own-is : (r
   refused-by m e h = (e, left-as-it-was m number e bytes out h, left-as-it-was m number e told answer h)
 
   -- the second slice is too short: the number of the call where it has no room at all
-  pub without-room : length answer < 16 → (m : ℕ) → m ≡ own 0 → Answered m out answer
+  pub without-room : length answer < size → (m : ℕ) → m ≡ own 0 → Answered m out answer
   without-room h m e =
       let none : own 0 ≡ orElse before 13 = own-is 0 ∙ ap (λ (t : Bool). orElse before (cond t 0 13)) (lt-leb (length bytes) 0 some) in
       refused-by m (e ∙ none ∙ go before (leb (length bytes) (length out))
-      ∙ ap (λ (t : Bool). orElse (orElse before (cond (leb (length bytes) (length out)) 0 13)) (cond t 0 13)) (sym (lt-leb (length told) (length answer) (omega (arith, sixteen))))
+      ∙ ap (λ (t : Bool). orElse (orElse before (cond (leb (length bytes) (length out)) 0 13)) (cond t 0 13)) (sym (lt-leb (length told) (length answer) (omega (arith, sized))))
       ∙ ap (λ (n : ℕ). orElse n (cond (leb (length told) (length answer)) 0 13)) (sym (own-is (length out))))
       (λ z. never before (sym none ∙ sym e ∙ z))
     where
@@ -42,12 +42,12 @@ module _ (before : ℕ) (bytes told : List ℕ) (own : ℕ → ℕ) (own-is : (r
       never zero e = omega (arith, e)
       never (suc n) e = omega (arith, e)
 
-  -- there is room for the two numbers: the call's own number n, and what it left in the first slice
-  module _ (enough : 16 ≤ length answer) (n : ℕ) (is : n ≡ own (length out)) (left : List ℕ) where
+  -- there is room for the numbers: the call's own number n, and what it left in the first slice
+  module _ (enough : size ≤ length answer) (n : ℕ) (is : n ≡ own (length out)) (left : List ℕ) where
     pub refused : (n ≡ 0 → ⊥) → left ≡ out → Answered n left answer
     refused h e = let r = refused-by n (number-own (own (length out)) told (length answer) n is h) h in (r .0, e ∙ r .1, r .2)
 
     pub answered : n ≡ 0 → left ≡ splice out 0 bytes → (second : List ℕ) → second ≡ splice answer 0 told → Answered 0 left second
     answered z e second q =
-        let k = number-none (own (length out)) told (length answer) (sym is ∙ z) (omega (arith, sixteen)) in
+        let k = number-none (own (length out)) told (length answer) (sym is ∙ z) (omega (arith, sized)) in
         (k, e ∙ left-written 0 number k bytes out refl, q ∙ left-written 0 number k told answer refl)

@@ -1,5 +1,5 @@
 -- Numbers of eight bytes in a slice: those written one behind the other are one write (`numbers-then`), and they are read back (`numbers-read`).
-use mathlib.Core.Path.{_≡_, refl, sym, ap, _∙_}
+use mathlib.Core.Path.{_≡_, sym, ap, _∙_}
 use mathlib.Core.List.{List, [], _∷_, _++_, flatten, append-nil, append-assoc}
 use Prim.Native.Nat.{ℕ, _+_, _*_, _^_, _≤_, _<_}
 use native.Mathlib.Numerals.{add-one}
@@ -7,17 +7,11 @@ use native.Mathlib.Omega.{arith}
 use lib.ListN.{length, take, drop, getD}
 use lib.Seq.{take-at, drop-at, take-suc, drop-drop, length-take-le}
 use Rattle.rules.specs.Numbers.{Below, number, bytes, pieces, numbers, allBytes, splice}
-use Rattle.rules.proofs.Numbers.{number-bytes, numbers-allBytes, length-bytes, length-allBytes}
+use Rattle.rules.proofs.Numbers.{number-bytes, numbers-allBytes, length-bytes, length-allBytes, allBytes-append}
 use Rattle.rules.proofs.Slices.{numbers-take}
 use Rattle.copies.proofs.Laws.{then}
 
 -- ---- one write behind another
-
--- the bytes of two lists of numbers stand one behind the other
-pub allBytes-append : (o w : ℕ) (xs ys : List ℕ) → allBytes o w (xs ++ ys) ≡ allBytes o w xs ++ allBytes o w ys
-unfolding flatten
-allBytes-append o w [] ys = refl
-allBytes-append o w (x ∷ xs) ys = ap (λ (r : List ℕ). bytes o w x ++ r) (allBytes-append o w xs ys) ∙ sym (append-assoc (bytes o w x) (allBytes o w xs) (allBytes o w ys))
 
 -- one number alone
 pub one-number : (n : ℕ) → bytes 0 8 n ≡ allBytes 0 8 (n ∷ [])

@@ -11,6 +11,7 @@ use Rattle.rules.specs.Rules.{payloadStart, refusal, opened}
 use Rattle.rules.specs.Points.{value, time, mark, markNumber, markCount, pointRefusal, walkRefusal}
 use Rattle.rules.specs.Cut.{Setup, orElse, count, cutBytes, cutRefusal, combined, combinedRefusal}
 use Rattle.joining.specs.Join.{partsIn, joinedBytes, joinRefusal}
+use Rattle.narrowing.specs.Narrow.{narrowBytes, narrowRefusal}
 use Rattle.block.specs.Opened.{arraysOf}
 use Rattle.block.specs.Texts.{textOf, textStart, traceLabel, upToZero, orOther}
 
@@ -105,6 +106,21 @@ joinLeft s out second = leftBy (joinNumber s (length out) second) (joinedBytes (
 
 unfoldable pub joinAnswerLeft : List ℕ → ℕ → List ℕ → List ℕ
 joinAnswerLeft s room answer = leftBy (joinNumber s room (length answer)) (joinAnswer s) answer
+
+-- ---- a narrowing: the block to one slice, its length to the other
+
+abbrev pub narrowAnswer : List ℕ → List ℕ
+narrowAnswer s = allBytes 0 8 (length (narrowBytes s) ∷ [])
+
+-- 13 of the one slice is in the narrowing's own number
+unfoldable pub narrowNumber : List ℕ → ℕ → ℕ → ℕ
+narrowNumber s room second = orRoom (narrowRefusal s room) (narrowAnswer s) second
+
+unfoldable pub narrowLeft : List ℕ → List ℕ → ℕ → List ℕ
+narrowLeft s out second = leftBy (narrowNumber s (length out) second) (narrowBytes s) out
+
+unfoldable pub narrowAnswerLeft : List ℕ → ℕ → List ℕ → List ℕ
+narrowAnswerLeft s room answer = leftBy (narrowNumber s room (length answer)) (narrowAnswer s) answer
 
 -- ---- the layout: where the payload starts, F, S, SEGMENT_INDEX, SUBARRAY_COUNT, the ten lengths, and where each part starts in the payload
 

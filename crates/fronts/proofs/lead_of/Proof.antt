@@ -9,8 +9,7 @@ use Rattle.rules.specs.Template.{template, widthAt}
 use Rattle.rules.specs.Wave.{orderOf}
 use Rattle.rules.specs.Rules.{payloadStart, opened}
 use Rattle.rules.proofs.Numbers.{below-index}
-use Rattle.rules.proofs.Opened.{start-opened}
-use Rattle.parts.proofs.Tables.{order-there}
+use Rattle.rules.proofs.Opened.{start-opened, order-there}
 use Rattle.fronts.proofs.Fronting.{head-room, long-at}
 use Rattle.fronts.proofs.lead_of.Statement.{statement}
 use Rattle.fronts.proofs.lead_of.Tie as tie

@@ -1,0 +1,4 @@
+pub mod Doubles
+pub mod Written
+pub mod Answers
+pub mod Calls
