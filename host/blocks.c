@@ -59,6 +59,16 @@ size_t length_of_block(const struct opened *o)
     return (size_t)(o->samples[1].bytes + o->samples[1].length - o->block.bytes);
 }
 
+float float_at(const struct opened *o, size_t at)
+{
+    return tessarquin_field_float(o->payload + at, o->order);
+}
+
+struct part text_at(const struct opened *o, size_t at, size_t most)
+{
+    return (struct part){o->payload + at, tessarquin_field_text_length(o->payload + at, most)};
+}
+
 struct alone cut_out(const struct opened *o, uint32_t n)
 {
     struct block b = o->block;

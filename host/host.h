@@ -106,6 +106,10 @@ struct opened open_block(struct block block);
 /* How many bytes the block has without the new line behind it. */
 size_t length_of_block(const struct opened *o);
 
+/* A float of the descriptor; and a text, up to its zero byte. */
+float float_at(const struct opened *o, size_t at);
+struct part text_at(const struct opened *o, size_t at, size_t most);
+
 /* A segment as a block of its own: its points have the same bits and marks, and a call judges its trigger entry alone.
    `bytes` is the caller's to free. */
 struct alone {
@@ -151,13 +155,16 @@ int differ(const struct opened *one, const struct opened *other);
 /* The fields of `one` that are others than those of `other`, both as they are there, and the user text. */
 void found_different(FILE *to, const struct opened *one, const struct opened *other);
 
-/* ---- show.c, rail.c, points.c, join.c, combined.c: the commands */
+/* ---- show.c, rail.c, points.c, join.c, combined.c, narrow.c: the commands */
 
 /* Numbers that were worked out have so many digits. */
 void show(const char *name, int digits);
 
 /* The lines for an array that has samples at the rail: how many they are, of all and of each segment that has any. */
 void show_rail(const struct opened *o, uint32_t array);
+
+/* How many samples of an array stand at the rail. */
+uint64_t samples_at_rail(const struct opened *o, uint32_t array);
 
 /* How points are printed: as a table with a heading, or in plain lines; with so many digits, or 0 for as many as are
    needed to read the same number back. */
@@ -184,11 +191,17 @@ struct made {
 /* Prints the numbers of the one cut that stands for these, each of what the one before it wrote. */
 void print_combined(const struct made *cuts, size_t count);
 
+/* The words of a file as bytes, to `to`. */
+void narrow(const char *name, const char *to, int replace);
+
 /* ---- words.c: texts and whole numbers for a person */
 
 /* A text of a block. Printable ASCII and valid UTF-8 are written as they are, and every other byte, the backslash too,
    as \xNN: nothing that would move a terminal's cursor, hide a letter or turn the line around. */
 void write_text(FILE *to, const uint8_t *text, size_t length);
+
+/* A blank and the unit, where there is one. */
+void write_unit(FILE *to, struct part unit);
 
 /* A line of the program, whose words may be names that somebody typed: as above, but for the backslash; and its end. */
 void write_line(FILE *to, const char *text);

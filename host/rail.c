@@ -1,4 +1,4 @@
-/* trace show: how many samples of an array stand at the rail, and in which segments. */
+/* How many samples of an array stand at the rail, and in which segments: what show warns of, and narrow tells. */
 #include "host.h"
 #include "tessarquin.h"
 
@@ -76,6 +76,11 @@ static void print_segments(const struct opened *o, uint32_t array, const struct 
         print_samples(rest, (uint64_t)o->points * (rail->segments - lines));
         putchar('\n');
     }
+}
+
+uint64_t samples_at_rail(const struct opened *o, uint32_t array)
+{
+    return rail_of(o, array).samples;
 }
 
 void show_rail(const struct opened *o, uint32_t array)

@@ -14,19 +14,9 @@ static int32_t long_at(const struct opened *o, size_t at)
     return tessarquin_field_long(o->payload + at, o->order);
 }
 
-static float float_at(const struct opened *o, size_t at)
-{
-    return tessarquin_field_float(o->payload + at, o->order);
-}
-
 static double double_at(const struct opened *o, size_t at)
 {
     return tessarquin_field_double(o->payload + at, o->order);
-}
-
-static struct part text_at(const struct opened *o, size_t at, size_t most)
-{
-    return (struct part){o->payload + at, tessarquin_field_text_length(o->payload + at, most)};
 }
 
 /* A point, as the library answers it. */
@@ -67,15 +57,6 @@ static void print_text(const char *name, struct part text)
     putchar('\n');
 }
 
-/* A blank and the unit, where there is one. */
-static void print_unit(struct part unit)
-{
-    if (unit.length == 0)
-        return;
-    putchar(' ');
-    write_text(stdout, unit.bytes, unit.length);
-}
-
 static void print_float(float x)
 {
     char room[DECIMAL_MOST + 1];
@@ -87,7 +68,7 @@ static void print_float_in(const char *name, float x, struct part unit)
 {
     print_name(name);
     print_float(x);
-    print_unit(unit);
+    write_unit(stdout, unit);
     putchar('\n');
 }
 
@@ -103,7 +84,7 @@ static void print_double(double x)
 static void print_double_in(double x, struct part unit)
 {
     print_double(x);
-    print_unit(unit);
+    write_unit(stdout, unit);
 }
 
 static void print_range(double from, double to, struct part unit)
@@ -188,28 +169,37 @@ static void show_record(const struct opened *o)
 
 /* ---- the vertical side */
 
-/* The values of two samples, the lower one first, and the samples themselves. */
-static void print_values_of(float low, float high, const struct opened *o, struct part unit)
+/* The values of two samples by this gain, the lower one first, and the samples themselves, with what they are. */
+static void print_values_of(float low, float high, double gain, const char *as, const struct opened *o, struct part unit)
 {
-    double gain = (double)float_at(o, TESSARQUIN_AT_VERTICAL_GAIN), offset = (double)float_at(o, TESSARQUIN_AT_VERTICAL_OFFSET);
+    double offset = (double)float_at(o, TESSARQUIN_AT_VERTICAL_OFFSET);
     double one = gain * (double)low - offset, other = gain * (double)high - offset;
     print_range(one < other ? one : other, one < other ? other : one, unit);
     fputs(" (samples ", stdout);
     print_float(low);
     fputs(" to ", stdout);
     print_float(high);
-    puts(")");
+    printf("%s)\n", as);
 }
 
-/* The least and the greatest sample that the instrument allows, as it states them: it may clip there, before the rail. */
+/* Bytes that were narrowed keep the limits of words, which no byte reaches: nothing else tells them from other bytes. */
+static int were_words(const struct opened *o)
+{
+    float low = float_at(o, TESSARQUIN_AT_MIN_VALUE), high = float_at(o, TESSARQUIN_AT_MAX_VALUE);
+    return o->type == TESSARQUIN_BYTE && low >= INT16_MIN && high <= INT16_MAX && (low < INT8_MIN || high > INT8_MAX);
+}
+
+/* The least and the greatest sample that the instrument allows, as it states them: it may clip there, before the rail.
+   Those of words stand for what they did before the gain was made 256 times itself. */
 static void show_limits(const struct opened *o, struct part unit)
 {
     float low = float_at(o, TESSARQUIN_AT_MIN_VALUE), high = float_at(o, TESSARQUIN_AT_MAX_VALUE);
+    double gain = (double)float_at(o, TESSARQUIN_AT_VERTICAL_GAIN);
     print_name("stated limits");
     if (low == 0 && high == 0)
         puts("(none)");
     else
-        print_values_of(low, high, o, unit);
+        print_values_of(low, high, were_words(o) ? gain / 256 : gain, were_words(o) ? ", as words" : "", o, unit);
 }
 
 static void show_vertical(const struct opened *o, struct part unit)
@@ -220,7 +210,7 @@ static void show_vertical(const struct opened *o, struct part unit)
     print_float_in("gain", gain, unit);
     print_float_in("offset", offset, unit);
     print_name("full range");
-    print_values_of((float)low, (float)high, o, unit);
+    print_values_of((float)low, (float)high, (double)gain, "", o, unit);
     show_limits(o, unit);
     print_float_in("probe", float_at(o, TESSARQUIN_AT_PROBE_ATT), (struct part){NULL, 0});
     print_name("coupling");
@@ -269,7 +259,7 @@ static void show_horizontal(const struct opened *o, struct part unit)
     print_text("times in", unit);
     print_name("interval");
     print_float(interval);
-    print_unit(unit);
+    write_unit(stdout, unit);
     if (o->sparsing > 1) {
         fputs(", between points ", stdout);
         print_double_in(between, unit);
@@ -282,7 +272,7 @@ static void show_horizontal(const struct opened *o, struct part unit)
     else {
         print_double(1 / between);
         fputs(" points per", stdout);
-        print_unit(unit.length ? unit : (struct part){(const uint8_t *)"unit", 4});
+        write_unit(stdout, unit.length ? unit : (struct part){(const uint8_t *)"unit", 4});
     }
     putchar('\n');
     show_time_rule(o, unit);
@@ -358,13 +348,27 @@ static void show_valid(const struct opened *o)
     putchar('\n');
 }
 
+/* What a sample is, and of bytes that were words what their values were. */
+static void show_samples(const struct opened *o, struct part unit)
+{
+    double gain = (double)float_at(o, TESSARQUIN_AT_VERTICAL_GAIN);
+    printf("%-17s%s, %s byte first", "samples", o->type == TESSARQUIN_WORD ? "words" : "bytes", o->order == TESSARQUIN_LOFIRST ? "low" : "high");
+    if (were_words(o))
+        fputs("; narrowed from words, by the stated limits", stdout);
+    if (were_words(o) && gain != 0) {
+        printf(": each value was as it is or %s, by less than ", gain > 0 ? "higher" : "lower");
+        print_double_in(gain > 0 ? gain : -gain, unit);
+    }
+    putchar('\n');
+}
+
 static void show_arrays(const struct opened *o, struct part unit)
 {
     printf("%-17s%s\n", "segments", grouped(o->segments));
     printf("%-17s%s\n", "segment index", grouped(o->index));
     printf("%-17s%s in each segment\n", "points", grouped(o->points));
     show_valid(o);
-    printf("%-17s%s, %s byte first\n", "samples", o->type == TESSARQUIN_WORD ? "words" : "bytes", o->order == TESSARQUIN_LOFIRST ? "low" : "high");
+    show_samples(o, unit);
     for (uint32_t array = 1; array <= o->arrays; array++)
         show_array(o, array, unit);
 }

@@ -16,6 +16,7 @@ static const char help[] =
     "    trace cut [-f] FILE OUT SP NP FP SN hi|lo                   a smaller file\n"
     "    trace join [-f] OUT FILE..                                  one file of segments that were fetched one by one\n"
     "    trace combined SP NP FP SN C [SP NP FP SN C]..              the one cut that stands for cuts of cuts\n"
+    "    trace narrow [-f] FILE OUT                                  a file of half the size, with less precise values\n"
     "    trace --help | --version\n"
     "\n"
     "FILE may be - for standard input. Words before the # of a block, as an oscilloscope answers, are skipped, where the #\n"
@@ -45,6 +46,11 @@ static const char help[] =
     "and C, how many points of each segment it kept, as it told. It prints SP NP FP SN of the one cut of the first FILE that\n"
     "writes the same bytes as the last of them, in its byte order: trace cut FILE OUT $(trace combined ..) hi. The same in\n"
     "words is told on standard error. Cuts that cannot have followed each other, or cannot have kept C, are refused.\n"
+    "\n"
+    "narrow keeps the high byte of each sample that is a word, and makes the gain 256 times itself: times stay, and each\n"
+    "value is as it was or lower (where the gain is below 0: higher), by less than the new gain. The low bytes are lost, so\n"
+    "keep FILE where they matter. The loss is told on standard error: the step of a sample now and before, and how many\n"
+    "samples came to stand at the rail. Samples that are bytes already stay. What is said of OUT at cut holds here too.\n"
     "\n"
     "It ends with 0; 1 where the file or what was asked is refused; 2 where it was called wrongly; 3 where a file or\n"
     "the memory failed, or OUT is in the way. What went wrong stands in one line on standard error, the last where there\n"
@@ -195,12 +201,18 @@ static void run_combined(const struct line *line)
     free(cuts);
 }
 
+static void run_narrow(const struct line *line)
+{
+    narrow(line->words[0], line->words[1], line->replace);
+}
+
 static const struct command commands[] = {
     {"show", "one FILE", 1, 1, DIGITS, run_show},
     {"points", "FILE [ARRAY [SEGMENT]]", 1, 3, CSV | DIGITS, run_points},
     {"cut", "FILE OUT SP NP FP SN hi|lo", 7, 7, FORCE, run_cut},
     {"join", "OUT FILE..", 2, ANY, FORCE, run_join},
     {"combined", "SP NP FP SN C for each cut", 1, ANY, 0, run_combined},
+    {"narrow", "FILE OUT", 2, 2, FORCE, run_narrow},
 };
 
 static void command(int count, char **words)

@@ -115,7 +115,8 @@ static size_t tell_different(const struct opened *o, const struct opened *from)
     fprintf(to, "%s differs from %s: ", name_of(o), name_of(from));
     found_different(to, o, from);
     told_all(to);
-    say("%s%s", told.text, o->order != from->order ? "; trace cut writes either order" : "");
+    say("%s%s%s", told.text, o->order != from->order ? "; trace cut writes either order" : "",
+        o->type != from->type ? "; trace narrow makes bytes of words" : "");
     free(told.text);
     return 1;
 }

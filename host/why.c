@@ -2,7 +2,19 @@
 #include "host.h"
 #include "tessarquin.h"
 
+#include <float.h>
+#include <math.h>
+
 /* ---- what was asked */
+
+static void found_gain(FILE *to, float gain)
+{
+    char number[DECIMAL_MOST + 1];
+    if (256 * fabs((double)gain) <= FLT_MAX)
+        return;
+    *put_float(number, gain) = 0;
+    fprintf(to, "VERTICAL_GAIN is %s, and 256 times that is beyond the greatest float", number);
+}
 
 static void found_in_question(FILE *to, const struct opened *o, struct asked asked, uint32_t refusal)
 {
@@ -18,6 +30,9 @@ static void found_in_question(FILE *to, const struct opened *o, struct asked ask
         break;
     case TESSARQUIN_SPARSE:
         fprintf(to, "SP %s and S %s are too much together", grouped(asked.sp), grouped(o->sparsing));
+        break;
+    case TESSARQUIN_GAIN:
+        found_gain(to, float_at(o, TESSARQUIN_AT_VERTICAL_GAIN));
         break;
     }
 }

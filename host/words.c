@@ -54,6 +54,14 @@ void write_text(FILE *to, const uint8_t *text, size_t length)
     write_shown(to, text, length, 0);
 }
 
+void write_unit(FILE *to, struct part unit)
+{
+    if (unit.length == 0)
+        return;
+    fputc(' ', to);
+    write_text(to, unit.bytes, unit.length);
+}
+
 void write_line(FILE *to, const char *text)
 {
     write_shown(to, (const uint8_t *)text, strlen(text), 1);

@@ -8,7 +8,7 @@
  * starts at byte 2 + d.
  * Whatever stands before the '#' is for the caller to remove.
  *
- * Nine calls, each proved to meet its description for every input:
+ * Ten calls, each proved to meet its description for every input:
  *
  *     tessarquin_open       is this a block that obeys the template, and what is in it?
  *     tessarquin_layout     where do the descriptor and the other parts stand?
@@ -19,6 +19,7 @@
  *     tessarquin_cut        a smaller block: some segments, every so many-th point, in either byte order
  *     tessarquin_combined   the setup of the one cut that stands for two cuts, or for any number of them
  *     tessarquin_join       one block of the segments that were fetched one by one, in whatever order they arrived
+ *     tessarquin_narrow     a block of half the size, less precise: each sample's high byte, and 256 times the gain
  *
  * What holds for all of them
  *
@@ -59,16 +60,16 @@ extern "C" {
 /* The version of these calls. Below 1.0 the second number moves where a call takes or answers something else, and where
    one is added. Since 0.2 tessarquin_point answers 24 bytes (16 before), and tessarquin_fill eight bytes behind its M
    values: whoever fills segments back to back leaves room for them. Since 0.3 there is tessarquin_join, with the refusal
-   16, and since 0.4 tessarquin_combined; what was there before is as it was. Header and archive have to be of one
-   version. */
+   16, since 0.4 tessarquin_combined, and since 0.5 tessarquin_narrow, with the refusal 19; what was there before is as it
+   was. Header and archive have to be of one version. */
 #define TESSARQUIN_VERSION_MAJOR 0
-#define TESSARQUIN_VERSION_MINOR 4
-#define TESSARQUIN_VERSION "0.4"
+#define TESSARQUIN_VERSION_MINOR 5
+#define TESSARQUIN_VERSION "0.5"
 
 /*
  * Why a call is refused, in the order of the checks: the first that applies is the number returned. Each entry is the
  * name, the number, when it is given, and what the caller can do. A host makes tables of its own from the list, in its
- * own language for example. 14 was never given and is not used; no call here gives 15 or 17 to 19.
+ * own language for example. 14 was never given and is not used; no call here gives 15, 17 or 18.
  */
 #define TESSARQUIN_REFUSALS(X)                                                                                         \
     X(FRAME, 1, "it does not start with #, a digit d from 1 to 9, and d digits",                                       \
@@ -99,6 +100,8 @@ extern "C" {
       "cut with a smaller SP: its product with SPARSING_FACTOR has to be 268,435,455 or below")                        \
     X(JOIN, 16, "the parts are not the segments 1 to n, at most 1,000, of one trace, or together they are no block",   \
       "join every segment of one acquisition once, each fetched alone by its SN and all in the same form")             \
+    X(GAIN, 19, "256 times VERTICAL_GAIN is beyond the greatest float",                                                \
+      "keep the samples as words, or fetch the block again where its gain is damaged")                                 \
     X(ROOM, 13, "a slice lent for the answer is too short",                                                            \
       "lend as many bytes as the call says that its answer takes")
 
@@ -406,6 +409,58 @@ enum tessarquin_join_number {
 uint32_t tessarquin_join(const uint8_t *parts, size_t parts_len,
                          uint8_t *out, size_t out_len,
                          uint8_t *answer, size_t answer_len);
+
+/* ---- narrowing */
+
+/* The number that tessarquin_narrow answers. */
+enum tessarquin_narrow_number {
+    TESSARQUIN_NARROW_LENGTH /* the bytes written to out */
+};
+#define TESSARQUIN_NARROW_BYTES 8u
+
+/* A narrowed payload is never longer than its block's, and its header is always "#9" and nine digits. So this many bytes
+   more than the block has are room for the narrowed one. */
+#define TESSARQUIN_NARROW_MORE 6u
+
+/*
+ * Narrows a block of words to bytes, for an archive of half the size: refusals 1 to 8 and 20, then 19, then 13 if out or
+ * answer is too short. The low byte of each word is lost, and no call brings it back.
+ *
+ * Each sample becomes the whole number at or below sample / 256, which is its high byte: -1 becomes -1, and not 0.
+ * VERTICAL_GAIN becomes 256 times itself, exactly; where that is not finite, which is from 2^120 on and from -2^120 down,
+ * the call is refused by 19. COMM_TYPE and the lengths of the arrays follow. The byte order and every other field stay,
+ * and so do user text, trigger times and RIS offsets.
+ * A block of bytes is written as it is, behind a header "#9" and without the new line, whatever its gain.
+ *
+ * MIN_VALUE and MAX_VALUE are among the fields that stay, and go on to count in words: the value of such a limit is
+ * VERTICAL_GAIN / 256 times it, less VERTICAL_OFFSET. A limit beyond -128 to 127 is also all that tells a narrowed block
+ * from one that had bytes from the start: host/show.c goes by it.
+ *
+ * The block goes to out, with the header "#9" and no new line; room of block_len + TESSARQUIN_NARROW_MORE is always
+ * enough. What is written obeys the rules: no call refuses it by 1 to 8 or 20. It has the points that there were:
+ *     the time of each is the same, bit for bit;
+ *     its exact value falls by the old gain times a whole number from 0 to 255, the rest of its sample by 256. So with a
+ *     gain above 0 no value rises, with one below 0 none falls, and each moves by less than one step of the new samples,
+ *     which is 256 of the old ones, but for the rounding of the two values;
+ *     a word from 32,512 on becomes 127 and one below -32,512 becomes -128, and these have the mark, which of the words
+ *     only 32,767 and -32,768 had.
+ *
+ * Narrowing and cutting, by the same numbers, may change places: the same bytes are written. Given room for what is
+ * written on the way, either way is accepted where the other is. Narrowing twice writes what narrowing once writes.
+ *
+ *     uint8_t narrow[TESSARQUIN_NARROW_BYTES], *narrowed = (uint8_t *)malloc(block_len + TESSARQUIN_NARROW_MORE);
+ *     if (narrowed) {
+ *         uint32_t refusal = tessarquin_narrow(block, block_len, narrowed, block_len + TESSARQUIN_NARROW_MORE, narrow, sizeof narrow);
+ *         if (refusal == TESSARQUIN_OK)
+ *             printf("%u bytes\n", (unsigned)tessarquin_number(narrow, TESSARQUIN_NARROW_LENGTH));
+ *         else
+ *             printf("%s\n", tessarquin_text(refusal));
+ *         free(narrowed);
+ *     }
+ */
+uint32_t tessarquin_narrow(const uint8_t *block, size_t block_len,
+                           uint8_t *out, size_t out_len,
+                           uint8_t *answer, size_t answer_len);
 
 /* ---- answers and refusals, read */
 

@@ -12,10 +12,11 @@
  *     links      a file system with links, but without the rename that replaces nothing
  *     between    both: OUT comes to be on such a file system
  *     swapped    a file stands where a pipe did, just before it is opened
- *     count      tells at the end how many points, fills and cuts were asked of blocks of more than 1,000 bytes
+ *     count      tells at the end how many points, fills, cuts and narrowings were asked of blocks of more than 1,000 bytes
  *     uncombined two cuts are refused by 12, whatever their numbers are
  *     unjoined   a join is refused by 16, whatever the parts are
- *     unasked    a join, and two cuts, are refused by 13, though there is room
+ *     unnarrowed a narrowing is refused by 19, whatever the gain is
+ *     unasked    a join, two cuts, and a narrowing are refused by 13, though there is room
  */
 #define _GNU_SOURCE
 #include "tessarquin.h"
@@ -44,6 +45,8 @@ uint32_t __real_tessarquin_combined(uint32_t spa, uint32_t npa, uint32_t fpa, ui
                                     uint32_t fpb, uint32_t snb, uint32_t count, uint8_t *answer, size_t answer_len);
 uint32_t __real_tessarquin_join(const uint8_t *parts, size_t parts_len, uint8_t *out, size_t out_len, uint8_t *answer,
                                 size_t answer_len);
+uint32_t __real_tessarquin_narrow(const uint8_t *block, size_t block_len, uint8_t *out, size_t out_len, uint8_t *answer,
+                                  size_t answer_len);
 
 static int fault(const char *word)
 {
@@ -166,4 +169,15 @@ uint32_t __wrap_tessarquin_join(const uint8_t *parts, size_t parts_len, uint8_t 
     if (fault("unasked"))
         return TESSARQUIN_ROOM;
     return __real_tessarquin_join(parts, parts_len, out, out_len, answer, answer_len);
+}
+
+uint32_t __wrap_tessarquin_narrow(const uint8_t *block, size_t block_len, uint8_t *out, size_t out_len, uint8_t *answer,
+                                  size_t answer_len)
+{
+    ask(block_len);
+    if (fault("unnarrowed"))
+        return TESSARQUIN_GAIN;
+    if (fault("unasked"))
+        return TESSARQUIN_ROOM;
+    return __real_tessarquin_narrow(block, block_len, out, out_len, answer, answer_len);
 }

@@ -167,4 +167,13 @@ static inline uint32_t join(struct slice parts, struct slice out, size_t room)
     return refusal;
 }
 
+/* A narrowing to a slice, which the caller gives back. */
+static inline uint32_t narrow(struct slice block, struct slice out, size_t room)
+{
+    struct slice answer = lend(room);
+    uint32_t refusal = tessarquin_narrow(block.bytes, block.length, out.bytes, out.length, answer.bytes, room);
+    take(answer, refusal, 1);
+    return refusal;
+}
+
 #endif

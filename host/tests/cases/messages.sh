@@ -124,7 +124,8 @@ refused 20 "$backwards" "$folder/damaged" show "$folder/damaged"
 refused 20 "$backwards" "$folder/damaged" points "$folder/damaged"
 refused 20 "$backwards" "$folder/damaged" points "$folder/damaged" 1 1
 refused 20 "$backwards" "$folder/damaged" cut "$folder/damaged" "$folder/none" 1 0 0 1 hi
-[ ! -e "$folder/none" ] || wrong 'a refused sequence was cut'
+refused 20 "$backwards" "$folder/damaged" narrow "$folder/damaged" "$folder/none"
+[ ! -e "$folder/none" ] || wrong 'a refused sequence was cut or narrowed'
 said=$($run "$programs/first" <"$folder/damaged" || true)
 [ "$said" = "refused: a TRIGGER_TIME is less than the one before it; $(to_do 20)" ] || wrong "the first program says of a damaged sequence: $said"
 
@@ -139,3 +140,8 @@ refused 11 'a segment has 16 points, from 0 on, and point 16 was asked for' "a c
 patched "$example" 136 '\0\341\365\5'
 refused 12 'SP 5 and S 100,000,000 are too much together' "a cut of $folder/damaged" cut "$folder/damaged" "$folder/none" 5 0 0 0 hi
 [ ! -e "$folder/none" ] || wrong 'a refused cut was written'
+patched "$sample" 156 '\0\0\200\173'
+refused 19 'VERTICAL_GAIN is 1.329228e+36, and 256 times that is beyond the greatest float' "a narrowing of $folder/damaged" narrow "$folder/damaged" "$folder/none"
+patched "$sample" 156 '\377\377\177\377'
+refused 19 'VERTICAL_GAIN is -3.4028235e+38, and 256 times that is beyond the greatest float' "a narrowing of $folder/damaged" narrow "$folder/damaged" "$folder/none"
+[ ! -e "$folder/none" ] || wrong 'a refused narrowing was written'

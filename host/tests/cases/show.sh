@@ -109,6 +109,27 @@ shown "$sample" 164 '\0\0\376\106'
 line 'stated limits' '-409.6 to 406.4 V (samples -32768 to 32512)'
 shown "$sample" 164 '\0\0\300\177' 168 '\0\0\200\377'
 line 'stated limits' 'nan to -inf V (samples -inf to nan)'
+
+# the limits of bytes; and beyond these they are of words, from which the bytes were narrowed, whichever way the gain goes
+limits=(164 '\0\0\376\102' 168 '\0\0\0\303')
+shown "$example" "${limits[@]}"
+line 'stated limits' '-64.25 to 63.25 (samples -128 to 127)'
+line samples 'bytes, low byte first'
+shown "$example" 164 '\0\0\376\106' 168 '\0\0\0\307'
+line 'stated limits' '-64.25 to 63.25 (samples -32768 to 32512, as words)'
+line samples 'bytes, low byte first; narrowed from words, by the stated limits: each value was as it is or higher, by less than 0.5'
+shown "$example" "${limits[@]}" 156 '\0\0\0\277' 164 '\0\0\0\103' 196 V
+line 'stated limits' '-0.5 to 0 V (samples -128 to 128, as words)'
+line samples 'bytes, low byte first; narrowed from words, by the stated limits: each value was as it is or lower, by less than 0.5 V'
+shown "$example" "${limits[@]}" 156 '\0\0\0\200' 168 '\0\0\1\303'
+line 'stated limits' '-0.25 to -0.25 (samples -129 to 127, as words)'
+line samples 'bytes, low byte first; narrowed from words, by the stated limits'
+# limits that are no word's either say nothing
+shown "$example" 164 '\0\0\0\107' 168 '\0\0\0\303'
+line 'stated limits' '-64.25 to 16383.8 (samples -128 to 32768)'
+line samples 'bytes, low byte first'
+shown "$example" 164 '\0\0\376\106' 168 '\0\0\300\177'
+line samples 'bytes, low byte first'
 $run "$programs/made" 1 0 1 4 0 >"$folder/four"
 shown "$folder/four" 60 '\2\0\0\0\2\0\0\0' 116 '\2\0\0\0'
 line 'array 1' 'least -1.75 (point 0), greatest 1.75 (point 1), mean 0'
