@@ -25,7 +25,7 @@
 
 enum kind {
     PROBE, OPEN, POINT, FILL, CUT, FLOATS, WALK, STEP, USER_TEXT, LABEL, LAYOUT, TEXT_PLACE, LABEL_PLACE, WALKED_FLOATS,
-    JOIN, COMBINED
+    JOIN, COMBINED, NARROW
 };
 enum { BLOCK, FALLBACK, OUT, ANSWER, MARKS, SLICES };
 
@@ -180,6 +180,8 @@ static uint64_t call(enum kind kind, const uint32_t n[NUMBERS], const struct sli
         return tessarquin_combined(n[0], n[1], n[2], n[3], n[4], n[5], n[6], n[7], n[8], answer, answer_len);
     case JOIN:
         return tessarquin_join(block, block_len, out, out_len, answer, answer_len);
+    case NARROW:
+        return tessarquin_narrow(block, block_len, out, out_len, answer, answer_len);
     case LAYOUT:
         return tessarquin_layout(block, block_len, answer, answer_len);
     case TEXT_PLACE:

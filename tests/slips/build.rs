@@ -9,7 +9,7 @@ use std::{env, fs};
 const LAW: &str = "../src/law";
 const LIST: &str = "wrong.txt";
 /// What a version may be caught by with nothing to compare with; src/main.rs has a way for each.
-const FLAWS: [&str; 9] = [
+const FLAWS: [&str; 12] = [
     "breaks demand 3",
     "breaks a chain",
     "breaks a rule",
@@ -19,6 +19,9 @@ const FLAWS: [&str; 9] = [
     "hangs on arrival",
     "moves a segment",
     "gives no part back",
+    "moves a value",
+    "hangs on the cut",
+    "narrows twice",
 ];
 
 /// One entry of the list; a line left out has no wrong one.

@@ -8,8 +8,9 @@ use crate::headers;
 use crate::joins;
 use crate::law::descriptor::*;
 use crate::law::numbers::{read_signed, store};
-use crate::law::rules::{open, Refusal};
+use crate::law::rules::open;
 use crate::marks;
+use crate::narrows;
 use crate::pairs;
 use crate::places;
 use crate::questions::{place_calls, Extent};
@@ -18,9 +19,6 @@ use crate::request::Call;
 use crate::results;
 use crate::rooms::request;
 use crate::shape::{any_order, Shape};
-
-/// 13 comes last: a cut that it refuses passes every other check.
-const ROOM: u64 = Refusal::Room as u64;
 
 /// One case in so many has a long block.
 const LARGE_EVERY: u64 = 400;
@@ -34,6 +32,7 @@ pub fn run(checker: &mut Checker, seed: u64, case: u64) -> (String, Result<(), D
         return (format!("long block: {}", edge.name), ask_little(checker, &block, random));
     }
     match case % 8 {
+        0 if case % 32 == 8 => narrows::run(checker, case / 32, random),
         0 => {
             let block = right_block(random);
             ("right block".into(), ask_much(checker, &block, random))
@@ -75,11 +74,11 @@ pub fn cut_of_cut(checker: &mut Checker, random: &mut Random) -> Result<(), Diff
     pairs::check(checker, &block, random)
 }
 
-/// A cut of a right block; what it writes is opened.
-pub fn cut_opened(checker: &mut Checker, random: &mut Random) -> Result<(), Difference> {
+/// A cut of a right block, and the same block narrowed; what is written is opened.
+pub fn written_opened(checker: &mut Checker, random: &mut Random) -> Result<(), Difference> {
     let block = right_block(random);
     let cut = Extent::of(&block).cut(random);
-    ask(checker, &block, random, &[cut])
+    ask(checker, &block, random, &[cut, Call::Narrow])
 }
 
 /// The payload of a right block under another header.
@@ -194,6 +193,7 @@ fn ask_much(checker: &mut Checker, block: &[u8], random: &mut Random) -> Result<
     calls.extend((0..2).map(|_| extent.fill(random)));
     calls.extend((0..2).map(|_| extent.cut(random)));
     calls.extend((0..2).map(|_| extent.right_cut(random)));
+    calls.push(Call::Narrow);
     calls.extend(place_calls(random));
     calls.extend(extent.test_calls(random));
     calls.push(chains::any_combined(random));
@@ -208,8 +208,8 @@ fn ask(
 ) -> Result<(), Difference> {
     for call in calls {
         let reply = checker.ask(&request(random, *call, block))?;
-        if matches!((call, reply.number), (Call::Cut { .. }, 0 | ROOM)) {
-            results::check(checker, block, *call, random)?;
+        if matches!(call, Call::Cut { .. } | Call::Narrow) {
+            results::check(checker, block, *call, reply, random)?;
         }
     }
     Ok(())

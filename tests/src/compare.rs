@@ -6,7 +6,7 @@ use std::collections::BTreeMap;
 use std::fmt::Display;
 
 /// The refusals that a run must see: all that the calls give.
-const REFUSALS: [u64; 15] = [1, 2, 3, 4, 5, 6, 7, 8, 9, 10, 11, 12, 13, 16, 20];
+const REFUSALS: [u64; 16] = [1, 2, 3, 4, 5, 6, 7, 8, 9, 10, 11, 12, 13, 16, 19, 20];
 
 /// What has been compared so far.
 #[derive(Default)]
@@ -15,8 +15,9 @@ pub struct Tally {
     pub calls: BTreeMap<&'static str, u64>,
     /// How often each number came, 0 among them; one that never came is not in it.
     pub seen: BTreeMap<u64, u64>,
-    /// Blocks that a cut wrote and that were opened.
+    /// Blocks that a cut wrote and that were opened, and those that a narrowing wrote.
     pub cut_blocks: u64,
+    pub narrowed_blocks: u64,
     /// Blocks whose parts and texts stand where the calls say.
     pub placed_blocks: u64,
     /// Blocks whose marks are those of the samples they were made of.
@@ -26,6 +27,15 @@ pub struct Tally {
     /// Chains of cuts that are one cut, and how many of them are of the most cuts.
     pub chains: u64,
     pub longest_chains: u64,
+    /// Blocks of words that were narrowed and have the values of their samples' high bytes, and
+    /// blocks of bytes that have the points they had.
+    pub word_blocks: u64,
+    pub byte_blocks: u64,
+    /// Blocks that are the same narrowed once and twice.
+    pub narrowed_twice: u64,
+    /// Narrowings and cuts that changed places and wrote the same, and those refused both ways.
+    pub changed_places: u64,
+    pub refused_both_ways: u64,
 }
 
 impl Tally {
@@ -39,22 +49,26 @@ impl Tally {
         if self.calls.len() < Call::NAMES {
             return Some(format!("{:?} alone were asked", self.calls));
         }
-        if self.cut_blocks == 0 {
-            return Some("no cut block was opened".into());
-        }
-        if self.placed_blocks == 0 {
-            return Some("no block's parts and texts were looked for".into());
-        }
-        if self.marked_blocks == 0 {
-            return Some("no block's marks were looked for".into());
-        }
-        if self.joined_blocks == 0 {
-            return Some("no joined block was looked at".into());
-        }
-        if self.chains == 0 {
-            return Some("no chain of cuts was made".into());
-        }
-        (self.longest_chains == 0).then(|| format!("no chain of {MOST_CUTS} cuts was made"))
+        let absent = |(_, count): &(String, u64)| *count == 0;
+        self.checked().into_iter().find(absent).map(|(what, _)| format!("no {what}"))
+    }
+
+    /// What was found on the core's own answers, and how often.
+    pub fn checked(&self) -> [(String, u64); 12] {
+        [
+            ("cut blocks that opened".into(), self.cut_blocks),
+            ("narrowed blocks that opened".into(), self.narrowed_blocks),
+            ("blocks with parts and texts in their places".into(), self.placed_blocks),
+            ("blocks with the marks of their samples".into(), self.marked_blocks),
+            ("joined blocks with the segments of their parts".into(), self.joined_blocks),
+            ("chains of cuts that are one cut".into(), self.chains),
+            (format!("chains of {MOST_CUTS} cuts among them"), self.longest_chains),
+            ("blocks of words with the values of their high bytes".into(), self.word_blocks),
+            ("blocks of bytes with the points they had".into(), self.byte_blocks),
+            ("blocks that are the same narrowed twice".into(), self.narrowed_twice),
+            ("narrowings and cuts that changed places".into(), self.changed_places),
+            ("narrowings and cuts that were refused both ways".into(), self.refused_both_ways),
+        ]
     }
 
     /// How many calls were made.
@@ -139,6 +153,14 @@ fn differences(call: Call, expected: &Reply, came: &Reply) -> Vec<String> {
     lines.extend(slice_difference("answer", &expected.answer, &came.answer));
     lines.extend(slice_difference("marks", &expected.marks, &came.marks));
     lines
+}
+
+/// Two numbers that must be one.
+pub fn same(what: &str, came: u64, expected: u64) -> Result<(), Difference> {
+    if came != expected {
+        return Err(Difference(format!("{what}: {came}, not {expected}")));
+    }
+    Ok(())
 }
 
 /// How two replies of a core differ that should be one: the number, then what they left.

@@ -5,7 +5,6 @@ use std::process::ExitCode;
 use std::time::{Duration, Instant};
 
 use tessarquin_tests::cases;
-use tessarquin_tests::chains::MOST_CUTS;
 use tessarquin_tests::compare::{counts, Checker, Difference};
 use tessarquin_tests::request::LAW;
 use tessarquin_tests::runner::Runner;
@@ -92,11 +91,9 @@ fn run_all(options: &Options) -> Result<String, String> {
         return Err(format!("{cases} cases are too few: {missing}"));
     }
     let (calls, by_name, numbers) = (tally.all_calls(), counts(&tally.calls), counts(&tally.seen));
-    let (cut_blocks, placed_blocks) = (tally.cut_blocks, tally.placed_blocks);
-    let (marked_blocks, joined_blocks) = (tally.marked_blocks, tally.joined_blocks);
-    let (chains, longest) = (tally.chains, tally.longest_chains);
+    let checked = tally.checked().map(|(what, count)| format!("{count} {what}")).join("; ");
     Ok(format!(
-        "{cases} cases, {calls} calls, no difference ({by_name}); {cut_blocks} cut blocks opened, none refused; {placed_blocks} blocks with parts and texts in their places; {marked_blocks} blocks with the marks of their samples; {joined_blocks} joined blocks with the segments of their parts; {chains} chains of cuts that are one cut, {longest} of them of {MOST_CUTS}; numbers seen: {numbers}"
+        "{cases} cases, {calls} calls, no difference ({by_name}); {checked}; numbers seen: {numbers}"
     ))
 }
 

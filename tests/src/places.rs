@@ -1,7 +1,7 @@
 //! Where things stand, on the core's own answers: the ten parts tile the payload, and at a text's
 //! place stands what the call that copies the text copies.
 
-use crate::compare::{Checker, Difference};
+use crate::compare::{same, Checker, Difference};
 use crate::draft::Draft;
 use crate::questions::place_calls;
 use crate::random::Random;
@@ -91,14 +91,6 @@ fn check_copy(what: &str, stands: Option<&[u8]>, copy: &Reply) -> Result<(), Dif
         return Err(Difference(format!(
             "{what}: at its place {stands:02X?}, copied {copied:02X?}"
         )));
-    }
-    Ok(())
-}
-
-/// Two numbers that must be one.
-fn same(what: &str, came: u64, expected: u64) -> Result<(), Difference> {
-    if came != expected {
-        return Err(Difference(format!("{what}: {came}, not {expected}")));
     }
     Ok(())
 }

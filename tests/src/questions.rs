@@ -88,10 +88,11 @@ impl Extent {
         Call::Step { array, segment, k: random.pick(&[any, any, behind]) }
     }
 
-    /// Each C call once.
+    /// Each C call of a block once.
     pub fn c_calls(&self, random: &mut Random) -> Vec<Call> {
         let mut calls = vec![Call::Open, self.point(random), self.fill(random), self.cut(random)];
         calls.extend(place_calls(random));
+        calls.push(Call::Narrow);
         calls
     }
 

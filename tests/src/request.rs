@@ -15,6 +15,7 @@ pub enum Call {
     Combined { a: Setup, b: Setup, count: u32 },
     // `block` holds the parts, back to back.
     Join,
+    Narrow,
     // Where the payload and its ten parts start, with the fields that say so.
     Layout,
     // Where the user text stands in the block.
@@ -37,7 +38,7 @@ pub enum Call {
 
 impl Call {
     /// How many calls there are, by name.
-    pub const NAMES: usize = 15;
+    pub const NAMES: usize = 16;
 
     pub fn name(&self) -> &'static str {
         match self {
@@ -47,6 +48,7 @@ impl Call {
             Call::Cut { .. } => "cut",
             Call::Combined { .. } => "combined setup",
             Call::Join => "join",
+            Call::Narrow => "narrow",
             Call::Layout => "layout",
             Call::TextPlace => "place of user text",
             Call::LabelPlace { .. } => "place of label",
@@ -92,7 +94,8 @@ impl fmt::Display for Call {
     fn fmt(&self, f: &mut fmt::Formatter) -> fmt::Result {
         write!(f, "{}", self.name())?;
         match self {
-            Call::Open | Call::Join | Call::Layout | Call::TextPlace | Call::UserText => Ok(()),
+            Call::Open | Call::Join | Call::Narrow => Ok(()),
+            Call::Layout | Call::TextPlace | Call::UserText => Ok(()),
             Call::Point { array, segment, point } => {
                 write!(f, ": array {array}, segment {segment}, point {point}")
             }
@@ -120,8 +123,8 @@ impl fmt::Display for Setup {
 }
 
 /// A call with the slices lent to it, and what they hold before it. `fallback` is empty but for a
-/// label and its place, `out` but for a cut, a join and a walk, `marks` but for a walk and a step.
-/// A combined setup takes no block. Floats are lent as their bytes, the low byte first.
+/// label and its place, `out` but for a cut, a join, a narrowing and a walk, `marks` but for a walk
+/// and a step. A combined setup takes no block. Floats are lent as their bytes, the low byte first.
 #[derive(Clone)]
 pub struct Request<'a> {
     pub call: Call,
@@ -154,7 +157,18 @@ impl Reply {
 
     /// The block that an accepted cut or join wrote.
     pub fn written(&self) -> &[u8] {
-        let length = self.number_at(1) as usize;
+        self.out_by(1)
+    }
+
+    /// The block that an accepted narrowing wrote.
+    pub fn narrowed(&self) -> &[u8] {
+        self.out_by(0)
+    }
+
+    /// What was written to `out`, by the number of the answer that is its length; nothing where a
+    /// wrong version accepts a call without room for it.
+    fn out_by(&self, i: usize) -> &[u8] {
+        let length = if self.answer.len() < 8 * i + 8 { 0 } else { self.number_at(i) as usize };
         &self.out[..length.min(self.out.len())]
     }
 }
@@ -175,6 +189,7 @@ pub struct Calls {
     pub cut: fn(&[u8], u32, u32, u32, u32, u32, &mut [u8], &mut [u8]) -> u32,
     pub combined: fn(u32, u32, u32, u32, u32, u32, u32, u32, u32, &mut [u8]) -> u32,
     pub join: fn(&[u8], &mut [u8], &mut [u8]) -> u32,
+    pub narrow: fn(&[u8], &mut [u8], &mut [u8]) -> u32,
     pub layout: fn(&[u8], &mut [u8]) -> u32,
     pub text_place: fn(&[u8], &mut [u8]) -> u32,
     pub label_place: fn(&[u8], &[u8], &mut [u8]) -> u32,
@@ -190,7 +205,7 @@ pub struct Calls {
 #[macro_export]
 macro_rules! calls_of {
     ($module:path) => {{
-        use $module::{calls, combined, join, places, tested};
+        use $module::{calls, combined, join, narrow, places, tested};
         $crate::request::Calls {
             open: calls::open,
             point: calls::point,
@@ -198,6 +213,7 @@ macro_rules! calls_of {
             cut: calls::cut,
             combined: combined::combined,
             join: join::join,
+            narrow: narrow::narrow,
             layout: places::layout,
             text_place: places::text_place,
             label_place: places::label_place,
@@ -232,6 +248,7 @@ impl Calls {
                 (self.combined)(a.sp, a.np, a.fp, a.sn, sp, np, fp, sn, count, &mut answer).into()
             }
             Call::Join => (self.join)(block, &mut out, &mut answer).into(),
+            Call::Narrow => (self.narrow)(block, &mut out, &mut answer).into(),
             Call::Layout => (self.layout)(block, &mut answer).into(),
             Call::TextPlace => (self.text_place)(block, &mut answer).into(),
             Call::LabelPlace { .. } => (self.label_place)(block, fallback, &mut answer).into(),

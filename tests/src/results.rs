@@ -1,31 +1,45 @@
-//! What a cut writes, on the core's own answers: no cut of an accepted block breaks a rule, so no
-//! number is kept for one that would.
+//! What a cut or a narrowing writes, on the core's own answers: of an accepted block none breaks a
+//! rule, so no number is kept for one that would.
 
 use crate::compare::{Checker, Difference};
-use crate::law::cut::CUT_MORE;
+use crate::law::rules::Refusal;
 use crate::random::Random;
-use crate::request::Call;
-use crate::rooms::{exact_request, with_room, Room};
+use crate::request::{Call, Reply};
+use crate::rooms::{exact_request, roomy_request};
 
-/// A cut that nothing refused, or 13 alone: it is made with room for any cut of the block, and what
-/// it writes is opened.
+/// 13 comes last: a call that it refuses passes every other check.
+const ROOM: u64 = Refusal::Room as u64;
+
+/// What a cut or a narrowing wrote is opened. One that 13 alone refused is made with room for any of
+/// the block.
 pub fn check(
     checker: &mut Checker,
     block: &[u8],
-    cut: Call,
+    call: Call,
+    reply: Reply,
     random: &mut Random,
 ) -> Result<(), Difference> {
-    let room = Room::for_block(block.len() + CUT_MORE, 16);
-    let reply = checker.ask(&with_room(random, cut, block, room))?;
+    let reply = match reply.number {
+        0 => reply,
+        ROOM => checker.ask(&roomy_request(random, call, block))?,
+        _ => return Ok(()),
+    };
     if reply.number != 0 {
         let number = reply.number;
-        return Err(Difference(format!("{cut}: refused by {number} with room for any cut")));
+        return Err(Difference(format!("{call}: refused by {number} with room for all")));
     }
-    let opened = checker.ask(&exact_request(random, Call::Open, reply.written()))?;
+    let written = match call {
+        Call::Narrow => reply.narrowed(),
+        _ => reply.written(),
+    };
+    let opened = checker.ask(&exact_request(random, Call::Open, written))?;
     if opened.number != 0 {
         let number = opened.number;
-        return Err(Difference(format!("{cut}: what it wrote is refused by {number}")));
+        return Err(Difference(format!("{call}: what it wrote is refused by {number}")));
     }
-    checker.tally.cut_blocks += 1;
+    match call {
+        Call::Narrow => checker.tally.narrowed_blocks += 1,
+        _ => checker.tally.cut_blocks += 1,
+    }
     Ok(())
 }

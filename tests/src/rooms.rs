@@ -4,7 +4,7 @@ use crate::law::cut::CUT_MORE;
 use crate::law::texts;
 use crate::questions::Extent;
 use crate::random::Random;
-use crate::request::{Call, Request, LAW};
+use crate::request::{Call, Reply, Request, LAW};
 
 /// The fill of a very long segment, its walk and a very long text are asked with too little room,
 /// and take no gigabyte.
@@ -19,7 +19,7 @@ pub struct Room {
 }
 
 impl Room {
-    /// For a cut or a join: its block, then c or n, and the block's length.
+    /// For a cut, a join or a narrowing: its block, then the numbers of its answer.
     pub fn for_block(out: usize, answer: usize) -> Room {
         Room { out, answer, marks: 0 }
     }
@@ -33,8 +33,11 @@ impl Room {
 pub fn request<'a>(random: &mut Random, call: Call, block: &'a [u8]) -> Request<'a> {
     let need = need(call, block);
     let unit = if call.takes_floats() { 8 } else { 1 };
-    // A cut is hardly longer than its block, nor a joined block longer than its parts.
-    let most = if matches!(call, Call::Cut { .. } | Call::Join) { usize::MAX } else { MOST_ROOM };
+    // What a cut, a join or a narrowing writes is hardly longer than what was lent.
+    let most = match call {
+        Call::Cut { .. } | Call::Join | Call::Narrow => usize::MAX,
+        _ => MOST_ROOM,
+    };
     let mut lent = |need: usize, unit: usize| (unit * near(random, need / unit)).min(most);
     let out = if need.out == 0 { 0 } else { lent(need.out, unit) };
     let answer = lent(need.answer, unit);
@@ -46,6 +49,11 @@ pub fn request<'a>(random: &mut Random, call: Call, block: &'a [u8]) -> Request<
 pub fn exact_request<'a>(random: &mut Random, call: Call, block: &'a [u8]) -> Request<'a> {
     let need = need(call, block);
     with_room(random, call, block, need)
+}
+
+/// A request with room for any cut of a block, and for what it narrows to.
+pub fn roomy_request<'a>(random: &mut Random, call: Call, block: &'a [u8]) -> Request<'a> {
+    with_room(random, call, block, Room::for_block(block.len() + CUT_MORE, 16))
 }
 
 /// A request whose outputs hold random bytes.
@@ -82,11 +90,8 @@ fn need(call: Call, block: &[u8]) -> Room {
         Call::Open => Room::for_answer(40),
         Call::Point { .. } => Room::for_answer(24),
         Call::Fill { .. } => Room::for_answer(8 * points() + 8),
-        Call::Cut { .. } | Call::Join => {
-            let room = Room::for_block(block.len() + CUT_MORE, 16);
-            let reply = LAW.reply(&with_zeros(call, block, room));
-            Room::for_block(if reply.number == 0 { reply.written().len() } else { 400 }, 16)
-        }
+        Call::Cut { .. } | Call::Join => need_of_block(call, block, 16, Reply::written),
+        Call::Narrow => need_of_block(call, block, 8, Reply::narrowed),
         Call::Combined { .. } => Room::for_answer(32),
         Call::Layout => Room::for_answer(200),
         Call::TextPlace => Room::for_answer(16),
@@ -100,6 +105,13 @@ fn need(call: Call, block: &[u8]) -> Room {
         Call::UserText => Room::for_answer(texts::user_text(block).len()),
         Call::Label { fallback } => Room::for_answer(texts::label(block, &vec![0; fallback]).len()),
     }
+}
+
+/// The room that the block takes which a call writes, beside an answer of so many bytes.
+fn need_of_block(call: Call, block: &[u8], answer: usize, written: fn(&Reply) -> &[u8]) -> Room {
+    let room = Room::for_block(block.len() + CUT_MORE, answer);
+    let reply = LAW.reply(&with_zeros(call, block, room));
+    Room::for_block(if reply.number == 0 { written(&reply).len() } else { 400 }, answer)
 }
 
 /// A request without a fallback whose outputs hold zeros.

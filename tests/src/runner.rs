@@ -146,6 +146,7 @@ impl Core for Runner {
             Call::Combined { a, b, count } => {
                 (15, vec![a.sp, a.np, a.fp, a.sn, b.sp, b.np, b.fp, b.sn, count])
             }
+            Call::Narrow => (16, vec![]),
         };
         let Request { block, fallback, out, answer, marks, .. } = request;
         self.exchange(kind, &numbers, [block, fallback, out, answer, marks])

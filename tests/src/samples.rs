@@ -1,5 +1,5 @@
 //! Samples of right blocks: any, at the rail, one beside it, and such as a reader of another type or
-//! byte order would take for the rail.
+//! byte order would take for the rail; and words about the multiples of 256.
 
 use crate::law::numbers::{read_signed, store, Order};
 use crate::random::Random;
@@ -26,6 +26,10 @@ const FREE_WORDS: [i64; 12] = [
     word(0x0000),
     word(0xFFFF),
 ];
+
+/// About the multiples of 256, where a word's high byte changes, and the ends of the range.
+const HIGH_BYTE_CHANGES: [i64; 15] =
+    [-32_768, -32_513, -32_512, -257, -256, -255, -1, 0, 1, 255, 256, 257, 32_511, 32_512, 32_767];
 
 const fn word(bits: u16) -> i64 {
     bits as i16 as i64
@@ -78,8 +82,9 @@ pub fn one(random: &mut Random, width: usize, points: usize, place: usize) -> Ve
 }
 
 fn segment(random: &mut Random, width: usize, points: usize) -> Vec<i64> {
-    match random.below(8) {
+    match random.below(9) {
         0..=2 => any(random, width, points),
+        8 if width == 2 => (0..points).map(|_| random.pick(&HIGH_BYTE_CHANGES)).collect(),
         3 => byte_ends(random, width, points),
         4 => all(random, width, points),
         5 => none(random, width, points),

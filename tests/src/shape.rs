@@ -17,6 +17,17 @@ pub enum Table {
     Ristime(i64),
 }
 
+impl Table {
+    /// Any that so many segments may have.
+    pub fn any(random: &mut Random, subarrays: i64) -> Table {
+        match (random.below(3), subarrays) {
+            (0, _) => Table::None,
+            (1, 0 | 1) => Table::Ristime(random.range(1, 10)),
+            _ => Table::Trigtime,
+        }
+    }
+}
+
 /// What decides how long a right block's parts are.
 #[derive(Clone)]
 pub struct Shape {
@@ -45,11 +56,7 @@ impl Shape {
             13..=18 => random.range(13, 80),
             _ => random.range(81, 600),
         };
-        let table = match (random.below(3), subarrays) {
-            (0, _) => Table::None,
-            (1, 0 | 1) => Table::Ristime(random.range(1, 10)),
-            _ => Table::Trigtime,
-        };
+        let table = Table::any(random, subarrays);
         Shape {
             order: any_order(random),
             word: random.once_in(2),

@@ -8,6 +8,7 @@ use tessarquin_tests::cases;
 use tessarquin_tests::chains;
 use tessarquin_tests::compare::{Checker, Difference};
 use tessarquin_tests::joins;
+use tessarquin_tests::narrows;
 use tessarquin_tests::random::Random;
 use tessarquin_tests::request::{Calls, LAW};
 
@@ -39,7 +40,7 @@ struct Way {
     run: fn(&mut Checker, &mut Random) -> Result<(), Difference>,
 }
 
-const WAYS: [Way; 9] = [
+const WAYS: [Way; 12] = [
     Way {
         flaw: "breaks demand 3",
         caught_how: "caught by demand 3 alone",
@@ -54,9 +55,9 @@ const WAYS: [Way; 9] = [
     },
     Way {
         flaw: "breaks a rule",
-        caught_how: "caught by opening what they cut",
-        kind: "cut opened",
-        run: cases::cut_opened,
+        caught_how: "caught by opening what they write",
+        kind: "cut or narrowed, and opened",
+        run: cases::written_opened,
     },
     Way {
         flaw: "hangs on the header",
@@ -93,6 +94,24 @@ const WAYS: [Way; 9] = [
         caught_how: "caught by cutting what they join alone",
         kind: "join of cuts",
         run: joins::joined_cuts,
+    },
+    Way {
+        flaw: "moves a value",
+        caught_how: "caught by the points of what they narrow alone",
+        kind: "narrowed",
+        run: narrows::narrowed_points,
+    },
+    Way {
+        flaw: "hangs on the cut",
+        caught_how: "caught by narrowing before and behind a cut alone",
+        kind: "narrowed and cut",
+        run: narrows::narrowed_cuts,
+    },
+    Way {
+        flaw: "narrows twice",
+        caught_how: "caught by narrowing twice alone",
+        kind: "narrowed twice",
+        run: narrows::narrowed_twice,
     },
 ];
 

@@ -6,13 +6,13 @@ mod asked;
 pub(crate) mod drawn;
 
 use crate::compare::{reply_difference, Checker, Difference};
-use crate::law::cut::{Setup, CUT_MORE};
+use crate::law::cut::Setup;
 use crate::law::rules::Refusal;
 use crate::pairs::kept_points;
 use crate::questions::Extent;
 use crate::random::Random;
 use crate::request::{Call, Reply, Request};
-use crate::rooms::{exact_request, with_room, Room};
+use crate::rooms::{exact_request, roomy_request, with_room, Room};
 
 pub use asked::any as any_combined;
 
@@ -119,8 +119,7 @@ impl Chain {
     ) -> Result<(), Difference> {
         let order = random.below(2) as u32;
         let cut = Call::Cut { setup, order };
-        let room = Room::for_block(self.written.len() + CUT_MORE, 16);
-        let reply = checker.ask(&with_room(random, cut, &self.written, room))?;
+        let reply = checker.ask(&roomy_request(random, cut, &self.written))?;
         if reply.number != 0 {
             return Err(Difference(format!("{cut}: refused by {}", reply.number)));
         }

@@ -13,6 +13,8 @@ use crate::law::descriptor::{SUBARRAY_COUNT, WAVE_ARRAY_COUNT};
 use crate::random::Random;
 use crate::shape::Shape;
 
+pub use scale::TOO_HIGH;
+
 pub struct Edge {
     /// What `open` answers; 0 where the edge is just inside.
     pub number: u32,

@@ -4,6 +4,7 @@ use super::shapes::*;
 use super::{edge, points, Edge};
 use crate::draft::Draft;
 use crate::floats;
+use crate::gains;
 use crate::law::descriptor::*;
 use crate::law::rules::LAST_PLACE;
 use crate::random::Random;
@@ -65,6 +66,9 @@ pub static EDGES: &[Edge] = &[
         d.set_float(HORIZ_INTERVAL, r.pick(&[0, 1, 1 << 31 | 1]));
         d.set_double(HORIZ_OFFSET, r.pick(&[1, 1 << 63 | 1]));
     }),
+    edge(0, "gain about 2^120", any, |d, r| d.set_float(VERTICAL_GAIN, gains::about_too_high(r))),
+    edge(0, "subnormal gain", any, |d, r| d.set_float(VERTICAL_GAIN, gains::subnormal(r))),
+    edge(0, "gain of either zero", any, |d, r| d.set_float(VERTICAL_GAIN, r.pick(&[0, 1 << 31]))),
     edge(0, "floats that no rule judges", any, |d, r| {
         for at in [164, 168, 292, 312, 328, 336, 340] {
             d.set_float(at, floats::not_finite(r));
@@ -74,6 +78,11 @@ pub static EDGES: &[Edge] = &[
         }
     }),
 ];
+
+/// A block of words that obeys the rules: narrowing it is refused by 19, and no other call is.
+pub static TOO_HIGH: Edge = edge(19, "gain too high for bytes", word, |d, r| {
+    d.set_float(VERTICAL_GAIN, gains::too_high(r));
+});
 
 /// Puts F so that the last point's place is the highest one, or so many beyond.
 fn set_last_place(draft: &mut Draft, beyond: i64) {

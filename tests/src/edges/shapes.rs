@@ -9,6 +9,10 @@ pub fn byte(shape: &mut Shape, _: &mut Random) {
     shape.word = false;
 }
 
+pub fn word(shape: &mut Shape, _: &mut Random) {
+    shape.word = true;
+}
+
 pub fn with_text(shape: &mut Shape, random: &mut Random) {
     shape.user_text = 8 + random.below(40);
 }

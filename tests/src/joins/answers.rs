@@ -2,7 +2,7 @@
 //! points of segment k are those of part k.
 
 use super::parts::Parts;
-use crate::compare::{reply_difference, Checker, Difference};
+use crate::compare::{reply_difference, same, Checker, Difference};
 use crate::pairs::some_points;
 use crate::questions::Extent;
 use crate::random::Random;
@@ -80,14 +80,6 @@ fn check_open(
     same("joined block: segments", of_block.number_at(0), parts.drafts.len() as u64)?;
     for i in 1..5 {
         same(&format!("joined block: open's {i}"), of_block.number_at(i), of_part.number_at(i))?;
-    }
-    Ok(())
-}
-
-/// Two numbers that must be one.
-fn same(what: &str, came: u64, expected: u64) -> Result<(), Difference> {
-    if came != expected {
-        return Err(Difference(format!("{what}: {came}, not {expected}")));
     }
     Ok(())
 }

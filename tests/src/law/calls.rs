@@ -1,6 +1,7 @@
 //! The calls of the C host: numbers and byte slices only. Each returns 0 or the refusal's number; a
 //! refusal leaves every lent slice as it was. places.rs has those that answer where things stand,
-//! combined.rs the one that makes one cut of two, join.rs the one that joins.
+//! combined.rs the one that makes one cut of two, join.rs the one that joins, narrow.rs the one that
+//! narrows.
 
 use super::cut::{cut as cut_block, Setup};
 use super::numbers::{store, Order};

@@ -5,8 +5,8 @@ use super::numbers::{read, store, Order};
 use super::points::{place, sample_bytes};
 use super::rules::Opened;
 
-/// Bytes that a cut may have more than its block, and a joined block more than its parts: it has
-/// nine digits, and an accepted block has at least three.
+/// Bytes that a cut or a narrowed block may have more than its block, and a joined block more than
+/// its parts: it has nine digits, and an accepted block has at least three.
 pub const CUT_MORE: usize = 6;
 
 /// WAVEFORM_SETUP's four numbers; an SP of 0 counts as 1.

@@ -10,6 +10,7 @@ pub mod combined;
 pub mod cut;
 pub mod descriptor;
 pub mod join;
+pub mod narrow;
 pub mod numbers;
 pub mod places;
 pub mod points;

@@ -4,8 +4,8 @@
 use super::descriptor::*;
 use super::numbers::{read_double, Order};
 
-/// The refusals, with the document's numbers. 14 was never given and is not used; no call gives 15
-/// or 17 to 19.
+/// The refusals, with the document's numbers. 14 was never given and is not used; no call gives 15,
+/// 17 or 18.
 #[derive(Clone, Copy, Debug, PartialEq, Eq)]
 pub enum Refusal {
     Frame = 1,
@@ -22,7 +22,8 @@ pub enum Refusal {
     Sparse,
     Room,
     Join = 16,
-    Time = 20,
+    Gain = 19,
+    Time,
 }
 
 pub const SHORTEST_PAYLOAD: usize = SIZE;
