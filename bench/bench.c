@@ -141,6 +141,8 @@ static uint32_t by_4(void) { return cut_by(4, 1); }
 static uint32_t by_4_turned(void) { return cut_by(4, 0); }
 static uint32_t by_100(void) { return cut_by(100, 1); }
 
+static uint32_t narrowed(void) { return tessarquin_narrow(block, length, out, length, answer, sizeof answer); }
+
 static uint32_t c_bytes(void) { same_fill_bytes(block + samples, points, gain, offset, out); return 0; }
 static uint32_t c_words_low(void) { same_fill_words_low(block + samples, points, gain, offset, out); return 0; }
 static uint32_t c_words_high(void) { same_fill_words_high(block + samples, points, gain, offset, out); return 0; }
@@ -159,6 +161,9 @@ static uint32_t c_turned(void) { same_turn(block + samples, points, 1, out); ret
 static uint32_t c_by_4(void) { same_keep(block + samples, points, 4, out); return 0; }
 static uint32_t c_by_4_turned(void) { same_turn(block + samples, points, 4, out); return 0; }
 static uint32_t c_by_100(void) { same_keep(block + samples, points, 100, out); return 0; }
+
+static uint32_t c_narrowed_low(void) { same_narrow_low(block + samples, points, out); return 0; }
+static uint32_t c_narrowed_high(void) { same_narrow_high(block + samples, points, out); return 0; }
 
 /* Parts of 16,383 bytes, of which a thousand are nearly the longest block, and of 401 bytes. */
 enum { IN_LARGE = 8005, IN_SMALL = 14 };
@@ -199,6 +204,9 @@ static const struct work {
     {"cut-by-4", 1, 2, 0, by_4, c_by_4},
     {"cut-by-4-turn", 1, 2, 0, by_4_turned, c_by_4_turned},
     {"cut-by-100", 1, 2, 0, by_100, c_by_100},
+    {"narrow-word-low", 1, 2, 0, narrowed, c_narrowed_low},
+    {"narrow-word-high", 0, 2, 0, narrowed, c_narrowed_high},
+    {"narrow-byte", 1, 1, 0, narrowed, c_copied},
     {"join-large-low", 1, 2, IN_LARGE, joined, c_joined},
     {"join-large-high", 0, 2, IN_LARGE, joined, c_joined},
     {"join-small-low", 1, 2, IN_SMALL, joined, c_joined},
@@ -303,6 +311,7 @@ static void print_stacks(void)
     printf("tessarquin_fill %zu\n", touched(filled) - none);
     printf("tessarquin_cut %zu\n", touched(by_4) - none);
     printf("tessarquin_combined %zu\n", touched(combined) - none);
+    printf("tessarquin_narrow %zu\n", touched(narrowed) - none);
     make_parts(0, 1000, IN_SMALL);
     printf("tessarquin_join %zu\n", touched(joined) - none);
 }

@@ -122,6 +122,18 @@ void same_copy(const uint8_t *samples, size_t n, uint8_t *out)
     memcpy(out, samples, n);
 }
 
+void same_narrow_low(const uint8_t *restrict samples, size_t n, uint8_t *restrict out)
+{
+    for (size_t k = 0; k < n; k++)
+        out[k] = samples[2 * k + 1];
+}
+
+void same_narrow_high(const uint8_t *restrict samples, size_t n, uint8_t *restrict out)
+{
+    for (size_t k = 0; k < n; k++)
+        out[k] = samples[2 * k];
+}
+
 void same_copies(const uint8_t *parts, size_t length, size_t n, uint8_t *out)
 {
     for (size_t i = 0; i < n; i++)

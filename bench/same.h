@@ -17,6 +17,10 @@ void same_keep(const uint8_t *samples, size_t n, size_t step, uint8_t *out);
 void same_turn(const uint8_t *samples, size_t n, size_t step, uint8_t *out);
 void same_copy(const uint8_t *samples, size_t n, uint8_t *out);
 
+/* The high byte of each of n words. */
+void same_narrow_low(const uint8_t *samples, size_t n, uint8_t *out);
+void same_narrow_high(const uint8_t *samples, size_t n, uint8_t *out);
+
 /* n parts of so many bytes, one by one. */
 void same_copies(const uint8_t *parts, size_t length, size_t n, uint8_t *out);
 
