@@ -3,6 +3,7 @@
 #include "tessarquin.h"
 
 #include <math.h>
+#include <stdlib.h>
 
 /* ---- what is lost */
 
@@ -106,4 +107,5 @@ void narrow(const char *name, const char *to, int replace)
         tell_narrowed(&o, &loss, length, place);
     else
         say("the samples are bytes already, and each value is as it was; %s written to %s", counted((int64_t)length, "byte"), place);
+    free(loss.told.text);
 }

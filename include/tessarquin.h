@@ -440,8 +440,8 @@ enum tessarquin_narrow_number {
  * enough. What is written obeys the rules: no call refuses it by 1 to 8 or 20. It has the points that there were:
  *     the time of each is the same, bit for bit;
  *     its exact value falls by the old gain times a whole number from 0 to 255, the rest of its sample by 256. So with a
- *     gain above 0 no value rises, with one below 0 none falls, and each moves by less than one step of the new samples,
- *     which is 256 of the old ones, but for the rounding of the two values;
+ *     gain above 0 no value rises, with one below 0 none falls, and with one of 0 none moves; else each moves by less than
+ *     one step of the new samples, which is 256 of the old ones, but for the rounding of the two values;
  *     a word from 32,512 on becomes 127 and one below -32,512 becomes -128, and these have the mark, which of the words
  *     only 32,767 and -32,768 had.
  *

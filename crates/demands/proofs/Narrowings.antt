@@ -11,7 +11,6 @@ use lib.Dec.{T}
 use lib.IntN.{pos, negℤ}
 use lib.Ieee.{Float, le}
 use Rattle.rules.specs.Numbers.{Bytes, splice}
-use Rattle.rules.specs.Wave.{Wave}
 use Rattle.rules.specs.Rules.{refusal, opened}
 use Rattle.rules.specs.Points.{value, time, mark, pointRefusal}
 use Rattle.rules.specs.Cut.{Setup, cutBytes, cutRefusal}

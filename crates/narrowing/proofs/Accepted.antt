@@ -16,7 +16,7 @@ use Rattle.rules.specs.Template.{template, widthAt}
 use Rattle.rules.specs.Wave.{Wave, sizeOf, lengthsOf, encode, framed}
 use Rattle.rules.specs.Rules.{first, named, timed, payload, inner, rules, refusal, opened}
 use Rattle.rules.specs.Cut.{orElse}
-use Rattle.rules.proofs.Tests.{or-says, says-or, first-append, first-held, first-without, held-first, held-append, held-left, held-right, numbered-append, orElse-without}
+use Rattle.rules.proofs.Tests.{or-says, says-or, first-append, first-held, first-without, held-first, held-append, held-left, held-right, numbered-append, or-alone, orElse-without}
 use Rattle.rules.proofs.Facts.{Tiled, Counted}
 use Rattle.rules.proofs.Rows.{Shape}
 use Rattle.rules.proofs.Waves.{Fits}
@@ -318,12 +318,8 @@ before-13 s =
 pub room-enough : (s : List ℕ) → Bytes s → (n : ℕ) → length s + 6 ≤ n → (narrowRefusal s n ≡ beforeRoom s) × (narrowRefusal s n ≡ 13 → ⊥)
 room-enough s b n h = let e : narrowRefusal s n ≡ beforeRoom s = narrow-room s n ∙ go (refusal s) refl in (e, λ z. before-13 s (sym e ∙ z))
   where
-    alone : (m : ℕ) → orElse m 0 ≡ m
-    alone zero = refl
-    alone (suc m) = refl
-
     go : (p : ℕ) → refusal s ≡ p → orElse (beforeRoom s) (cond (leb (length (narrowBytes s)) n) 0 13) ≡ beforeRoom s
-    go zero e = ap (λ (t : Bool). orElse (beforeRoom s) (cond t 0 13)) (le-leb (length (narrowBytes s)) n (omega (arith, narrow-short s b e))) ∙ alone (beforeRoom s)
+    go zero e = ap (λ (t : Bool). orElse (beforeRoom s) (cond t 0 13)) (le-leb (length (narrowBytes s)) n (omega (arith, narrow-short s b e))) ∙ or-alone (beforeRoom s)
     go (suc p) e = rw e
 
 pub narrow-accepted : (s : List ℕ) → Bytes s → (n : ℕ) → narrowRefusal s n ≡ 0 → (refusal (narrowBytes s) ≡ 0) × (opened (narrowBytes s) ≡ narrow (opened s))

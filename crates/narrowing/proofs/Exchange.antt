@@ -5,12 +5,12 @@ use mathlib.Core.Logic.{_⊎_, inl, inr, _↔_}
 use Prim.Native.Nat.{ℕ, zero, suc, _-_, _≤_}
 use native.Mathlib.Nat.{mul-one}
 use mathlib.Core.List.{List, [], _∷_, _++_, map, map-map, flatten}
-use lib.ListN.{length, take}
+use lib.ListN.{length}
 use Rattle.rules.specs.Numbers.{Bytes}
 use Rattle.rules.specs.Wave.{Wave, encode, framed}
 use Rattle.rules.specs.Rules.{refusal, opened}
 use Rattle.rules.specs.Cut.{Setup, step, thinned, limited, only, kept, changed, changes, cut, cutBytes, cutRefusal}
-use Rattle.rules.proofs.Rows.{map-only}
+use Rattle.rules.proofs.Rows.{map-take, map-only}
 use Rattle.rules.proofs.Fields.{instead-out, out-both, agree}
 use Rattle.rules.proofs.Demands.{Allowed, cut-accepted, CutTaken, cut-says, says-cut}
 use Rattle.narrowing.specs.Narrow.{high, commType, narrowChanges, narrowed, narrowBy, narrow, narrowBytes, narrowRefusal}
@@ -26,14 +26,9 @@ module _ {A B : Type 0} (f : A → B) where
   thinned-map n zero (x ∷ xs) = ap {B = List B} (λ r. f x ∷ r) (thinned-map n (n - 1) xs)
   thinned-map n (suc k) (x ∷ xs) = thinned-map n k xs
 
-  take-map : (n : ℕ) (xs : List A) → take n (map f xs) ≡ map f (take n xs)
-  take-map zero xs = refl
-  take-map (suc n) [] = refl
-  take-map (suc n) (x ∷ xs) = ap {B = List B} (λ r. f x ∷ r) (take-map n xs)
-
   limited-map : (n : ℕ) (xs : List A) → limited n (map f xs) ≡ map f (limited n xs)
   limited-map zero xs = refl
-  limited-map (suc n) xs = take-map (suc n) xs
+  limited-map (suc n) xs = sym (map-take f (suc n) xs)
 
   pub kept-map : (s : Setup) (xs : List A) → kept s (map f xs) ≡ map f (kept s xs)
   unfolding kept

@@ -1,13 +1,13 @@
 -- 256 times a gain: it is exact wherever it is finite (`gain-exact`), and it is finite exactly where it is below 2^128 (`gain-range`).
 use mathlib.Core.Path.{_≡_, refl, sym, ap, ap₂, _∙_, subst}
-use Prim.Native.Nat.{ℕ, zero, suc, _+_, _-_, _*_, _/_, _%_, _^_, _≤_, _<_, compare}
+use Prim.Native.Nat.{ℕ, suc, _+_, _-_, _*_, _/_, _%_, _^_, _≤_, _<_, compare}
 use native.Mathlib.Nat.{le-trans, le-of-eq, lt-of-lt-of-le, sub-add-cancel, mul-one, mul-assoc, mul-le-mul-right, mul-lt-mul-of-pos-right, mul-div-cancel, le-div-iff-mul-le, div-div-eq-div-mul}
 use native.Mathlib.Omega.{arith}
-use mathlib.Core.Bool.{Bool, true, false, not, cond, false≢true}
+use mathlib.Core.Bool.{Bool, true, false, cond, false≢true}
 use lib.Dec.{T, ltb, lit<, lit≤}
 use lib.IntN.{ℤ, pos, natAbs, _*ℤ_}
 use lib.Pow.{pow-add, pow-pos}
-use lib.Ieee.{Float, nan, inf, fin, Format, binary32, prec, emax, low, up, down, unlike, size, span, climb, isNan, ofFields, odd, units as smallest, round, mul, ofInt, fits, ofBits}
+use lib.Ieee.{Float, nan, inf, fin, Format, binary32, prec, emax, low, unlike, size, odd, units as smallest, round, mul, ofInt, fits, ofBits}
 use lib.Ieee.Digits.{size-le}
 use lib.Ieee.Fits.{round-is, mul-fits}
 use lib.Ieee.Bits.{ofBits-toBits, ofBits-fits, toBits-lt}

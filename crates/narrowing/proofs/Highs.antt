@@ -4,7 +4,7 @@ use Prim.Native.Nat.{ℕ, suc, _+_, _-_, _*_, _/_, _%_, _≤_, _<_}
 use native.Mathlib.Nat.{div-add-mod', mod-lt}
 use native.Mathlib.Omega.{arith}
 use mathlib.Core.Bool.{Bool, true, false, cond}
-use mathlib.Core.List.{List, [], _∷_, _++_, map, map-map, flatten}
+use mathlib.Core.List.{List, [], _∷_, _++_, map, map-map, map-append, flatten}
 use lib.ListN.{length, getD, length-map, List·getD-map}
 use lib.Dec.{ltb}
 use lib.IntN.{ℤ, pos, negsuc, negℤ, _+ℤ_, _*ℤ_}
@@ -58,14 +58,10 @@ below-map : (xs : List ℕ) → Below 65536 xs → Below 256 (map high xs)
 below-map [] h = tt
 below-map (x ∷ xs) h = (omega arith, below-map xs (h .1))
 
-pub map-append : (xs ys : List ℕ) → map high (xs ++ ys) ≡ map high xs ++ map high ys
-map-append [] ys = refl
-map-append (x ∷ xs) ys = ap {B = List ℕ} (λ r. high x ∷ r) (map-append xs ys)
-
 pub flatten-high : (t : List (List ℕ)) → flatten (map (map high) t) ≡ map high (flatten t)
 unfolding flatten
 flatten-high [] = refl
-flatten-high (r ∷ rs) = ap {B = List ℕ} (λ l. map high r ++ l) (flatten-high rs) ∙ sym (map-append r (flatten rs))
+flatten-high (r ∷ rs) = ap {B = List ℕ} (λ l. map high r ++ l) (flatten-high rs) ∙ sym (map-append high r (flatten rs))
 
 pub below-high : (t : List (List ℕ)) → Below 65536 (flatten t) → Below 256 (flatten (map (map high) t))
 below-high t h = rw flatten-high (below-map (flatten t) h)

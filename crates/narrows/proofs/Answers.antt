@@ -1,11 +1,10 @@
 -- The numbers of a narrowing (`block-number`, `gain-number`, `room-number`), what it answers and leaves (`refuses`, `narrows`), and what its
 -- writers need of an opened block (`byte-needs`, `word-needs`).
 use mathlib.Core.Path.{_≡_, refl, sym, ap, ap₂, _∙_, subst}
-use mathlib.Core.Logic.{_⊎_, inl, inr}
-use Prim.Native.Nat.{ℕ, zero, suc, _+_, _*_, _/_, _^_, _≤_, _<_}
+use Prim.Native.Nat.{ℕ, zero, suc, _+_, _*_, _/_, _≤_, _<_}
 use native.Mathlib.Omega.{arith}
 use mathlib.Core.Bool.{Bool, true, false, cond, _||_}
-use mathlib.Core.List.{List, [], _∷_, _++_}
+use mathlib.Core.List.{List}
 use lib.ListN.{length, getD}
 use lib.Dec.{T, leb, eqb}
 use lib.Ieee.{binary32, ofBits, toBits}
@@ -14,8 +13,8 @@ use lib.Ieee.Scale.{finite}
 use borrow.Author.Tests.{lt-leb, ne-eqb, eq-eqb}
 use Rattle.rules.specs.Numbers.{Bytes, splice, unlessRefused}
 use Rattle.rules.specs.Template.{template, widthAt}
-use Rattle.rules.specs.Wave.{startsOf, lengthsOf}
-use Rattle.rules.specs.Rules.{finite32, refusal, opened, payloadStart, stated}
+use Rattle.rules.specs.Wave.{startsOf}
+use Rattle.rules.specs.Rules.{finite32, refusal, opened, stated}
 use Rattle.rules.specs.Cut.{orElse}
 use Rattle.rules.proofs.Tests.{says-or, or-some, left-alone}
 use Rattle.rules.proofs.Asked.{single-sound}

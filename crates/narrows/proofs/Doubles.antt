@@ -2,19 +2,19 @@
 -- exactly where the product is finite (`pattern-range`).
 use mathlib.Core.Path.{_≡_, refl, sym, ap, ap₂, _∙_, subst}
 use Prim.Native.Nat.{ℕ, zero, suc, _+_, _-_, _*_, _/_, _%_, _^_, _≤_, _<_}
-use native.Mathlib.Nat.{le-trans, lt-of-lt-of-le, mod-lt, mul-one, mul-assoc, mul-div-cancel, mul-le-mul-right, mul-le-mul-left, mul-lt-mul-of-pos-right, eq-of-mul-eq-mul-right}
+use native.Mathlib.Nat.{le-trans, lt-of-lt-of-le, mod-lt, mul-one, mul-assoc, mul-div-cancel, mul-le-mul-right, mul-lt-mul-of-pos-right, eq-of-mul-eq-mul-right}
 use native.Mathlib.Numerals.{add-one}
 use native.Mathlib.Omega.{arith}
 use mathlib.Core.Bool.{Bool, true, false, not, cond}
 use lib.Dec.{T, leb, ltb, eqb, lit<}
 use lib.IntN.{natAbs}
 use lib.Pow.{pow-add, pow-pos, pow-mono}
-use lib.Ieee.{Float, nan, inf, fin, binary32, up, down, size, odd, isNan, ofFields, ofBits, toBits}
+use lib.Ieee.{Float, nan, inf, fin, binary32, down, size, odd, isNan, ofFields, ofBits, toBits}
 use lib.Ieee.Fits.{down-pos}
 use lib.Ieee.Bits.{toBits-ofBits}
 use lib.Ieee.Exact.{HasValue, odd-sign}
 use lib.Ieee.Scale.{finite}
-use borrow.Author.Tests.{ltb-true, ltb-false, lt-ltb, le-ltb, leb-true, leb-false, le-leb, lt-leb, ne-eqb}
+use borrow.Author.Tests.{ltb-true, ltb-false, lt-ltb, le-ltb, le-leb, lt-leb, ne-eqb}
 use Rattle.rules.specs.Rules.{finite32}
 use Rattle.rules.specs.Points.{units}
 use Rattle.rules.proofs.Signs.{abs-signed}

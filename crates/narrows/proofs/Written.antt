@@ -1,10 +1,10 @@
 -- What the writers' stores leave (`byte-stored`, `word-stored`) is, at the numbers of an accepted block, the narrowed block: `byte-written` and `word-written`.
-use mathlib.Core.Path.{_≡_, refl, sym, ap, ap₂, _∙_, subst}
+use mathlib.Core.Path.{_≡_, refl, sym, ap, ap₂, _∙_}
 use Prim.Native.Nat.{ℕ, zero, suc, _+_, _-_, _*_, _/_, _≤_, _<_}
 use native.Mathlib.Nat.{mul-one, mul-div-left}
 use native.Mathlib.Omega.{arith}
 use mathlib.Core.Bool.{true}
-use mathlib.Core.List.{List, [], _∷_, _++_, map, flatten, append-assoc, append-nil}
+use mathlib.Core.List.{List, [], _∷_, _++_, map, map-append, flatten, append-assoc, append-nil}
 use lib.ListN.{length, getD, take, drop, length-append, length-drop, length-map, List·getD-map}
 use lib.Seq.{take-at, take-add, drop-at, drop-drop, drop-append-add}
 use Rattle.rules.specs.Numbers.{Bytes, splice, bytes, digits, allBytes, startsFrom}
@@ -21,10 +21,9 @@ use Rattle.rules.proofs.Opened.{length-payload, fits-opened, good-opened, cover
 use Rattle.copies.specs.Copies.{gather, part, items, header}
 use Rattle.copies.proofs.Laws.{length-splice, splice-over, then, three-at, gather-cong, allBytes-gather, length-part}
 use Rattle.copies.proofs.Head.{length-header}
-use Rattle.heads.specs.Heads.{longs}
 use Rattle.heads.proofs.Heads.{field-set, longs-laid}
 use Rattle.narrowing.specs.Narrow.{high, times256, commType, narrowed, narrowBytes}
-use Rattle.narrowing.proofs.Highs.{length-high, flatten-high, map-append}
+use Rattle.narrowing.proofs.Highs.{length-high, flatten-high}
 use Rattle.narrowing.proofs.Accepted.{narrow-word, byte-rewritten}
 use Rattle.narrows.specs.Steps.{byteBlock, wordHead, fieldsPut, wordBlock}
 
@@ -226,7 +225,7 @@ module _ (s : List ℕ) (b : Bytes s) (e : refusal s ≡ 0) where
         let o : ℕ = opened s .head 34 in
         let x : List ℕ = flatten (opened s .one) in
         let y : List ℕ = flatten (opened s .two) in
-        ap (allBytes o 1) (map-append x y ∙ ap₂ {C = List ℕ} (λ u v. u ++ v) (sym (flatten-high (opened s .one))) (sym (flatten-high (opened s .two))))
+        ap (allBytes o 1) (map-append high x y ∙ ap₂ {C = List ℕ} (λ u v. u ++ v) (sym (flatten-high (opened s .one))) (sym (flatten-high (opened s .two))))
         ∙ allBytes-append o 1 (flatten (map (map high) (opened s .one))) (flatten (map (map high) (opened s .two)))
 
     new-head : wordHead s (payloadStart s) (opened s .head 34) (opened s .head 60 / 2) (opened s .head 64 / 2) (times256 (opened s .head 156)) ≡ laid (opened s .head 34) template (narrowed (opened s) .head)

@@ -4,7 +4,7 @@ use mathlib.Core.List.{List, [], _∷_}
 use Prim.Native.Nat.{ℕ, _≤_, _<_}
 use native.Mathlib.Omega.{arith}
 use lib.ListN.{length}
-use Rattle.rules.specs.Numbers.{bytes, allBytes, splice}
+use Rattle.rules.specs.Numbers.{bytes, splice}
 use Rattle.rules.specs.Wave.{encode}
 use Rattle.rules.specs.Rules.{opened}
 use Rattle.rules.proofs.Frames.{length-framed}

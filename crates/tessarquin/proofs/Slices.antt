@@ -15,7 +15,7 @@ use Rattle.rules.specs.Rules.{payloadStart, opened}
 use Rattle.rules.specs.Points.{value, time, mark, markNumber}
 use Rattle.rules.specs.Cut.{Setup, orElse, combined}
 use Rattle.rules.proofs.Numbers.{length-allBytes}
-use Rattle.rules.proofs.Tests.{orElse-none}
+use Rattle.rules.proofs.Tests.{or-alone, orElse-none}
 use Rattle.block.specs.Opened.{arraysOf}
 use Rattle.block.specs.declared.Span.{Span}
 use Rattle.block.specs.Texts.{Stands, traceLabel, upToZero, orOther}
@@ -78,11 +78,7 @@ module _ (n : ℕ) (bs : List ℕ) (room : ℕ) where
 
   -- with room it is n
   pub number-enough : length bs ≤ room → orRoom n bs room ≡ n
-  number-enough h = ap (λ (t : Bool). orElse n (cond t 0 13)) (le-leb (length bs) room h) ∙ alone n
-    where
-      alone : (n : ℕ) → orElse n 0 ≡ n
-      alone zero = refl
-      alone (suc n) = refl
+  number-enough h = ap (λ (t : Bool). orElse n (cond t 0 13)) (le-leb (length bs) room h) ∙ or-alone n
 
   module _ (z : n ≡ 0) where
     pub number-short : room < length bs → 13 ≡ orRoom n bs room
