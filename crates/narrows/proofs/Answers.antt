@@ -88,7 +88,6 @@ pub record WordNeeds (s : List ℕ) (o : Opened) (front one two : ℕ) : Type 0 
   pub room : o .start + front + (one + two) * 2 ≤ length s
   pub is : wordBlock s (o .start) (o .order) front one two (times256 (gain (opened s .head))) ≡ narrowBytes s
   pub long : length (narrowBytes s) ≡ 11 + (front + one + two)
-  pub kind : o .kind ≡ 1
   pub real : T (finite (o .calibration .gain))
   pub good : finite32 (gain (opened s .head)) ≡ true
   pub bits : toBits binary32 (o .calibration .gain) ≡ gain (opened s .head)
@@ -121,7 +120,6 @@ module _ (s : List ℕ) (b : Bytes s) (o : Opened) (says : o ≡ openedAs s) (e 
         room = omega (arith, word-stated s b e word, payload-there s b e);
         is = word-written s b e word;
         long = word-long s b e word;
-        kind = word;
         real = finite-gain;
         good = gain-finite;
         bits = toBits-ofBits binary32 (gain (opened s .head)) (fits-gain s b e) (no-nan (ofBits binary32 (gain (opened s .head))) finite-gain);

@@ -8,7 +8,7 @@ ghost use Rattle.block.specs.Opened.{openedAs};
 ghost use Rattle.narrowing.specs.Narrow.{commType};
 ghost use Rattle.narrows.specs.Narrows.{narrowedAs, outAs};
 
-// An accepted WORD block, to out's start; refused for its gain or for room. The shift that leaves the high byte is 8 by COMM_TYPE, which the compiler does not know (`copies::pick_seconds` says why).
+// An accepted WORD block, to out's start; refused for its gain or for room.
 pub(crate) fn narrow_word(block: &[u8], o: Opened, out: &mut [u8]) -> Narrowed
     requires { ⌜ (o ≡ openedAs (now block)) × (refusal (now block) ≡ 0) × (commType (opened (now block) .head) ≡ 1) ⌝ }
     ensures { λ r. ⌜ r ≡ narrowedAs (now (block .entry)) (length (now (out .entry))) ⌝ }
@@ -30,17 +30,7 @@ pub(crate) fn narrow_word(block: &[u8], o: Opened, out: &mut [u8]) -> Narrowed
         return crate::refused(13);
     }
     let gain = crate::gains::times_256(gain);
-    crate::writes::write_word(
-        block,
-        o.start,
-        o.order,
-        o.kind * 8,
-        front,
-        one,
-        two,
-        gain,
-        out,
-    );
+    crate::writes::write_word(block, o.start, o.order, front, one, two, gain, out);
     Narrowed {
         refusal: 0,
         length: (11 + total) as u32,

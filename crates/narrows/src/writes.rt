@@ -21,14 +21,13 @@ pub(crate) fn write_word(
     block: &[u8],
     start: usize,
     order: u32,
-    shift: u32,
     front: usize,
     one: usize,
     two: usize,
     gain: u32,
     out: &mut [u8],
 )
-    requires { ⌜ (order ≤ 1) × (shift ≡ 8) × (346 ≤ front) × (front + one + two ≤ 16777216) ⌝ }
+    requires { ⌜ (order ≤ 1) × (346 ≤ front) × (front + one + two ≤ 16777216) ⌝ }
     requires { ⌜ start + front + (one + two) * 2 ≤ length (now block) ⌝ }
     requires { ⌜ 11 + (front + one + two) ≤ length (now out) ⌝ }
     ensures { λ _. ⌜ now (out .exit) ≡ splice (now (out .entry)) 0 (wordBlock (now (block .entry)) start order front one two gain) ⌝ }
@@ -38,7 +37,7 @@ pub(crate) fn write_word(
     copies::put_header(total as u32, out);
     copies::copy_bytes(block, start, front, out, 11);
     put_fields(order, one as u32, two as u32, gain, out);
-    copies::pick_seconds(block, pairs, one + two, shift, out, 11 + front);
+    copies::pick_seconds(block, pairs, one + two, out, 11 + front);
 }
 
 // COMM_TYPE, WAVE_ARRAY_1, WAVE_ARRAY_2 and VERTICAL_GAIN of the descriptor behind the header.

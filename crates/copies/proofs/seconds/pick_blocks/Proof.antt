@@ -13,11 +13,11 @@ use Rattle.copies.proofs.seconds.pick_blocks.Statement.{statement}
 use Rattle.copies.proofs.seconds.pick_blocks.Tie as tie
 
 abbrev Inv-loop : tie.InvT-loop
-Inv-loop src from blocks shift out₀ at i₀ out i =
+Inv-loop src from blocks out₀ at i₀ out i =
     (i ≤ blocks) × (length out ≡ length out₀) × (out ≡ splice out₀ at (items true src (from + 1) 2 1 (i * 128)))
 
 abbrev μ-loop : tie.MeasureT-loop
-μ-loop src from blocks shift out₀ at i₀ out i = blocks - i
+μ-loop src from blocks out₀ at i₀ out i = blocks - i
 
 loop-holds : tie.Need-loop-holds Inv-loop μ-loop
 loop-holds c = (search needs, refl, splice-none (c .before .before .args .out .now) (c .before .before .args .at))
@@ -51,7 +51,7 @@ loop-again c =
     let from-here : i * 128 * 2 ≡ i * 256 = omega arith in
     let more : i * 128 + 128 ≡ (i + 1) * 128 = omega arith in (
       omega arith,
-      c .before .before .pick-run .kept .1 .1 .1 .1 .0 ∙ at-loop .loop .inv .1,
+      c .before .before .pick-run .kept .1 .1 .1 .0 ∙ at-loop .loop .inv .1,
       c .before .before .pick-run .ensures ∙ rw (at-loop .loop .inv .2) (rw (from-here, more) at (seconds-more (a .src .now) (a .from) (i * 128) 128 (a .out .now) (a .at) (omega arith) (omega arith))),
     )
 

@@ -1,7 +1,7 @@
 -- The loop gathers one second byte more at each turn.
 use mathlib.Core.Path.{_≡_, refl, ap, _∙_}
 use mathlib.Core.List.{[], _∷_}
-use Prim.Native.Nat.{ℕ, _+_, _*_, _-_, _/_, _^_, _≤_}
+use Prim.Native.Nat.{ℕ, _+_, _*_, _-_, _/_, _≤_}
 use native.Mathlib.Nat.{mul-one}
 use native.Mathlib.Omega.{arith}
 use lib.ListN.{length, getD, length-set}
@@ -15,11 +15,11 @@ use Rattle.copies.proofs.seconds.pick_run.Statement.{statement}
 use Rattle.copies.proofs.seconds.pick_run.Tie as tie
 
 abbrev Inv-loop : tie.InvT-loop
-Inv-loop src from count shift out₀ at i₀ out i =
+Inv-loop src from count out₀ at i₀ out i =
     (i ≤ count) × (length out ≡ length out₀) × (out ≡ splice out₀ at (gather (λ k. getD src (from + 1 + k * 2) 0 ∷ []) i))
 
 abbrev μ-loop : tie.MeasureT-loop
-μ-loop src from count shift out₀ at i₀ out i = count - i
+μ-loop src from count out₀ at i₀ out i = count - i
 
 loop-holds : tie.Need-loop-holds Inv-loop μ-loop
 loop-holds c = (search needs, refl, splice-none (c .before .before .args .out .now) (c .before .before .args .at))
@@ -33,14 +33,8 @@ add-u16-at c = search needs
 u16-at-requires : tie.Need-u16-at-requires Inv-loop μ-loop
 u16-at-requires c κs = search needs
 
-cast-second : tie.Need-cast-second Inv-loop μ-loop
-cast-second c = search needs
-
-shr-second : tie.Need-shr-second Inv-loop μ-loop
-shr-second c = search needs
-
 cast-out : tie.Need-cast-out Inv-loop μ-loop
-cast-out c = rw (c .before .before .before .before .before .pre .0) (omega arith)
+cast-out c = search needs
 
 add-out : tie.Need-add-out Inv-loop μ-loop
 add-out c = search needs
@@ -56,13 +50,12 @@ loop-less c = search needs
 
 -- the byte that a turn stores
 second : (c : tie.After-u16-at Inv-loop μ-loop)
-    → c .u16-at .result / 2 ^ c .before .before .before .before .before .args .shift ≡ getD (c .before .before .before .before .before .args .src .now) (c .before .before .before .before .before .args .from + 1 + c .before .before .loop .i * 2) 0
+    → c .u16-at .result / 256 ≡ getD (c .before .before .before .before .before .args .src .now) (c .before .before .before .before .before .args .from + 1 + c .before .before .loop .i * 2) 0
 second c =
     let a = c .before .before .before .before .before .args in
     let p : ℕ = a .from + c .before .before .loop .i * 2 in
     let at : p + 1 ≡ a .from + 1 + c .before .before .loop .i * 2 = omega arith in
-    ap (λ (n : ℕ). c .u16-at .result / 2 ^ n) (c .before .before .before .before .before .pre .0)
-    ∙ ap (λ (n : ℕ). n / 256) (c .u16-at .ensures)
+    ap (λ (n : ℕ). n / 256) (c .u16-at .ensures)
     ∙ second-of (a .src .now) p (c .before .before .before .before .shared-slice-known .given p .fits) (omega arith)
     ∙ ap (λ (n : ℕ). getD (a .src .now) n 0) at
 
@@ -99,8 +92,6 @@ pick-run-spec =
     mul-u16-at
     add-u16-at
     u16-at-requires
-    cast-second
-    shr-second
     cast-out
     add-out
     slice-write-out

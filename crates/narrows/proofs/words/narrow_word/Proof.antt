@@ -101,19 +101,16 @@ times-256-requires c κs =
     let small = c .before .before .before .before in
     (gain-good (small .before .before), finite-bits (small .before) (passes (test (small .before)) (small .if1 .left)))
 
-mul-write-word : tie.Need-mul-write-word
-mul-write-word c = omega (arith, needed (c .before .before .before .before .before .before .before .before .before .before .before) .kind)
-
 write-word-requires : tie.Need-write-word-requires
 write-word-requires c κs =
-    let n = needed (c .before .before .before .before .before .before .before .before .before .before .before .before) in
-    ((n .order, omega (arith, n .kind), n .least, n .small), (n .room, omega (arith, c .before .before .before .if2 .left)))
+    let n = needed (c .before .before .before .before .before .before .before .before .before .before .before) in
+    ((n .order, n .least, n .small), (n .room, omega (arith, c .before .before .if2 .left)))
 
 add-t24 : tie.Need-add-t24
 add-t24 c = search needs
 
-cast-t18 : tie.Need-cast-t18
-cast-t18 c = omega (arith, needed (c .before .before .before .before .before .before .before .before .before .before .before .before .before .before .before) .small)
+cast-t21 : tie.Need-cast-t21
+cast-t21 c = omega (arith, needed (c .before .before .before .before .before .before .before .before .before .before .before .before .before .before) .small)
 
 same-length : tie.Need-same-length
 same-length c = search needs
@@ -121,7 +118,7 @@ same-length c = search needs
 returns-3 : tie.Need-returns-3
 returns-3 c =
     let written = c .before .before in
-    let times = written .before .before .before in
+    let times = written .before .before in
     let fit = times .before in
     let small = fit .before .before .before .before in
     let tested = small .before in
@@ -155,9 +152,8 @@ narrow-word-spec =
     refused-requires-2
     returns-2
     times-256-requires
-    mul-write-word
     write-word-requires
     add-t24
-    cast-t18
+    cast-t21
     same-length
     returns-3)

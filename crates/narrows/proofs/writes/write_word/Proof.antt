@@ -72,7 +72,7 @@ returns c =
     picked .pick-seconds .ensures
     ∙ ap (λ (l : List ℕ). splice l (11 + a .front) samples) (put .put-fields .ensures ∙ ap (fieldsPut (a .order) (a .one) (a .two) (a .gain)) (copied .copy-bytes .ensures ∙ ap (λ (l : List ℕ). splice l 11 (part s (a .start) (a .front))) (headed .put-header .ensures)))
     ∙ word-stored s (below-index 256 s (λ i h. known .shared-slice-known .given i .fits)) (a .start) (a .order) (a .one) (a .two) (a .gain) (a .out .now) (a .front) (a .start + a .front + a .order - 1)
-    (start .pre .0 .2) (omega (arith, start .pre)) (start .pre .1 .1) (omega (arith, start .pre))
+    (start .pre .0 .1) (omega (arith, start .pre)) (start .pre .1 .1) (omega (arith, start .pre))
 
 pub write-word-spec : {M : Type 1} → statement M
 write-word-spec =
