@@ -15,9 +15,9 @@ use Rattle.rules.specs.Cut.{changed}
 use Rattle.rules.proofs.Template.{above-template, total-template}
 use Rattle.rules.proofs.Numbers.{below-drop, laid-fields, length-laid, length-allBytes, length-bytes, allBytes-append}
 use Rattle.rules.proofs.Waves.{Fits}
-use Rattle.rules.proofs.Slices.{part-take}
+use Rattle.rules.proofs.Slices.{payload-part}
 use Rattle.rules.proofs.Frames.{length-framed}
-use Rattle.rules.proofs.Opened.{length-payload, fits-opened, good-opened, cover, head-there}
+use Rattle.rules.proofs.Opened.{payload-there, length-payload, fits-opened, good-opened, cover, head-there}
 use Rattle.copies.specs.Copies.{gather, part, items, header}
 use Rattle.copies.proofs.Laws.{length-splice, splice-over, then, three-at, gather-cong, allBytes-gather, length-part}
 use Rattle.copies.proofs.Head.{length-header}
@@ -115,11 +115,6 @@ unfolding header framed
 header-framed p = refl
 
 module _ (s : List ℕ) (b : Bytes s) (e : refusal s ≡ 0) where
-  -- a run of the payload's bytes, in the slice
-  payload-part : (k n : ℕ) → k + n ≤ stated s → part s (payloadStart s + k) n ≡ take n (drop k (payload s))
-  unfolding payload
-  payload-part k n h = ap (take n) (sym (drop-drop k (payloadStart s) s)) ∙ sym (part-take n k (stated s) (drop (payloadStart s) s) h)
-
   -- the payload ends with array 2
   pub whole : getD (startsOf (opened s .head)) 7 0 + getD (lengthsOf (opened s .head)) 7 0 ≡ stated s
   unfolding startsOf startsFrom
@@ -195,7 +190,7 @@ module _ (s : List ℕ) (b : Bytes s) (e : refusal s ≡ 0) where
     middle-part : part s (payloadStart s + 346) (length middle) ≡ middle
     middle-part =
         let o : ℕ = opened s .head 34 in
-        payload-part 346 (length middle) (omega (arith, stated-is))
+        sym (payload-part s (payload-there s b e) (length middle) 346 (omega (arith, stated-is)))
         ∙ ap (λ (p : List ℕ). take (length middle) (drop 346 p)) payload-is
         ∙ ap (take (length middle)) (drop-at (laid o template (opened s .head)) (middle ++ allBytes o 2 samples) 346 head-long)
         ∙ take-at middle (allBytes o 2 samples) (length middle) refl
@@ -218,7 +213,7 @@ module _ (s : List ℕ) (b : Bytes s) (e : refusal s ≡ 0) where
         each : (k : ℕ) → k < length samples → part s (payloadStart s + (346 + length middle) + o + k * 2) 1 ≡ take 1 (drop (o + k * 2) (allBytes o 2 samples))
         each k h =
             let at : payloadStart s + (346 + length middle) + o + k * 2 ≡ payloadStart s + (346 + (length middle + (o + k * 2))) = omega arith in
-            ap (λ (n : ℕ). part s n 1) at ∙ payload-part (346 + (length middle + (o + k * 2))) 1 (omega (arith, stated-is, fits-opened s b e .order)) ∙ ap (take 1) (rest (o + k * 2))
+            ap (λ (n : ℕ). part s n 1) at ∙ sym (payload-part s (payload-there s b e) 1 (346 + (length middle + (o + k * 2))) (omega (arith, stated-is, fits-opened s b e .order))) ∙ ap (take 1) (rest (o + k * 2))
 
     new-samples : allBytes (opened s .head 34) 1 (map high samples) ≡ allBytes (opened s .head 34) 1 (flatten (map (map high) (opened s .one))) ++ allBytes (opened s .head 34) 1 (flatten (map (map high) (opened s .two)))
     new-samples =
