@@ -13,11 +13,11 @@ use lib.Ieee.{binary64, ofBits, lt}
 use Rattle.rules.specs.Numbers.{number, upFrom, splice}
 use Rattle.rules.specs.Rules.{payloadStart, ascending, finite64}
 use Rattle.rules.proofs.Tests.{and-true, and-intro}
-use Rattle.rules.proofs.Thin.{length-upFrom}
+use Rattle.rules.proofs.Thin.{length-upFrom, getD-upFrom}
 use Rattle.copies.proofs.Laws.{length-part}
 use Rattle.block.specs.Opened.{timeBy, timesBy}
 use Rattle.joining.specs.Join.{partsIn, byIndex}
-use Rattle.joining.proofs.Lists.{Every, every-map, every-mapped, every-getD, getD-upFrom}
+use Rattle.joining.proofs.Lists.{Every, every-map, every-mapped, every-getD}
 use Rattle.joining.proofs.Index.{length-byIndex, every-byIndex}
 use Rattle.parts.specs.Parts.{rowOf, rowsOf}
 use Rattle.arrivals.specs.Arrivals.{partTime, timesAt, Timed}

@@ -9,9 +9,9 @@ use lib.ListN.{length, getD, length-map}
 use lib.Dec.{eqb}
 use borrow.Author.Tests.{eqb-true, eqb-false, eq-eqb, ne-eqb}
 use Rattle.rules.specs.Numbers.{upFrom, total}
-use Rattle.rules.proofs.Thin.{length-upFrom}
+use Rattle.rules.proofs.Thin.{length-upFrom, getD-upFrom}
 use Rattle.joining.specs.Join.{indexOf, indexed, partAt, byIndex}
-use Rattle.joining.proofs.Lists.{Every, every-mapped, Every-upFrom, every-getD, perm-one, getD-upFrom}
+use Rattle.joining.proofs.Lists.{Every, every-mapped, Every-upFrom, every-getD, perm-one}
 
 -- ---- those of index k
 

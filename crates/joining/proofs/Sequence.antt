@@ -12,14 +12,14 @@ use Rattle.rules.specs.Numbers.{Bytes, upFrom}
 use Rattle.rules.specs.Wave.{Wave, sizeOf, segments, points, segmentIndex, subarrayCount, encode, framed}
 use Rattle.rules.specs.Rules.{refusal, opened}
 use Rattle.rules.specs.Cut.{Setup, only, kept, count, changed, changes, orElse, oneIf, cut, cutBytes, cutRefusal}
-use Rattle.rules.proofs.Thin.{length-upFrom}
+use Rattle.rules.proofs.Thin.{length-upFrom, getD-upFrom}
 use Rattle.rules.proofs.Rows.{Rows, Shape, map-only, only-rows, total-rows}
 use Rattle.rules.proofs.Cuts.{kept-rows, segments-of-cut}
 use Rattle.rules.proofs.Frames.{length-framed, stated-framed}
 use Rattle.rules.proofs.Opened.{shape-opened}
 use Rattle.rules.proofs.Demands.{Allowed, CutTaken, cut-says, says-cut, cut-length, cut-accepted}
 use Rattle.joining.specs.Join.{indexOf, indexed, partAt, byIndex, partsIn, joinChanges, joined, joinedBytes, common, joinRefusal}
-use Rattle.joining.proofs.Lists.{Every, every-mapped, Every-upFrom, perm-every, map-upFrom, getD-upFrom}
+use Rattle.joining.proofs.Lists.{Every, every-mapped, Every-upFrom, perm-every, map-upFrom}
 use Rattle.rules.proofs.Fields.{instead-out, agree}
 use Rattle.joining.proofs.Framed.{start-framed}
 use Rattle.joining.proofs.Parts.{Ends, parts-flatten}

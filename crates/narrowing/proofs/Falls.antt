@@ -26,7 +26,7 @@ use Rattle.rules.proofs.Opened.{rules-numbered, shape-opened, fits-opened, good
 use Rattle.rules.proofs.Asked.{raw-below}
 use Rattle.rules.proofs.Rounds.{exactAt, value-order}
 use Rattle.narrowing.specs.Narrow.{high, widened, commType, gain, narrowed, narrowBy, narrow, narrowBytes, narrowRefusal}
-use Rattle.narrowing.proofs.Products.{times-sum, times-other, take-part}
+use Rattle.rules.proofs.Products.{times-sum, times-other, take-part}
 use Rattle.narrowing.proofs.Highs.{floor-of, high-at}
 use Rattle.narrowing.proofs.Gains.{gain-units}
 use Rattle.narrowing.proofs.Accepted.{Gained, NarrowTaken, narrow-says, narrow-byte, narrow-word, halved, narrow-bytes, narrow-accepted}

@@ -1,4 +1,3 @@
-pub mod Products
 pub mod Highs
 pub mod Gains
 pub mod Accepted

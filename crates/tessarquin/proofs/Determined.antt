@@ -1,10 +1,11 @@
 -- Two numbers that a call's contract allows for one input are equal, and so are the bytes left in the slices: `open-determined`, `point-determined`,
--- `fill-determined`, `cut-determined`, `combined-determined`, `join-determined`, `narrow-determined`, `layout-determined`, `text-determined`, `label-determined`.
+-- `fill-determined`, `crossing-determined`, `cut-determined`, `combined-determined`, `join-determined`, `narrow-determined`, `layout-determined`, `text-determined`, `label-determined`.
 use mathlib.Core.Path.{_≡_, sym, _∙_}
 use mathlib.Core.List.{List}
 use Prim.Native.Nat.{ℕ}
+use lib.Ieee.{Float}
 use Rattle.rules.specs.Cut.{Setup}
-use Rattle.tessarquin.proofs.Learnt.{OpenCall, PointCall, FillCall, CutCall, CombinedCall, JoinCall, NarrowCall, LayoutCall, TextCall, LabelCall}
+use Rattle.tessarquin.proofs.Learnt.{OpenCall, PointCall, FillCall, CrossingCall, CutCall, CombinedCall, JoinCall, NarrowCall, LayoutCall, TextCall, LabelCall}
 
 pub open-determined : (s answer : List ℕ) (m n : ℕ) (x y : List ℕ) → OpenCall s answer m x → OpenCall s answer n y → (m ≡ n) × (x ≡ y)
 open-determined s answer m n x y p q = (p .3 .0 ∙ sym (q .3 .0), p .3 .1 ∙ sym (q .3 .1))
@@ -14,6 +15,9 @@ point-determined s array segment k answer m n x y p q = (p .3 .0 ∙ sym (q .3 .
 
 pub fill-determined : (s : List ℕ) (array segment : ℕ) (answer : List ℕ) (m n : ℕ) (x y : List ℕ) → FillCall s array segment answer m x → FillCall s array segment answer n y → (m ≡ n) × (x ≡ y)
 fill-determined s array segment answer m n x y p q = (p .3 .0 ∙ sym (q .3 .0), p .3 .1 ∙ sym (q .3 .1))
+
+pub crossing-determined : (s : List ℕ) (array segment : ℕ) (level : Float) (answer : List ℕ) (m n : ℕ) (x y : List ℕ) → CrossingCall s array segment level answer m x → CrossingCall s array segment level answer n y → (m ≡ n) × (x ≡ y)
+crossing-determined s array segment level answer m n x y p q = (p .3 .0 ∙ sym (q .3 .0), p .3 .1 ∙ sym (q .3 .1))
 
 -- the number, the slice of the block and the slice of c and the length
 pub cut-determined : (s : List ℕ) (c : Setup) (order : ℕ) (out answer : List ℕ) (m n : ℕ) (x y u v : List ℕ) → CutCall s c order out answer m x u → CutCall s c order out answer n y v → (m ≡ n) × (x ≡ y) × (u ≡ v)

@@ -1,13 +1,15 @@
--- What a caller learns of a call for C, as the checker has it from the `ensures` of the call: `OpenCall`, `PointCall`, `FillCall`, `CutCall`,
--- `CombinedCall`, `JoinCall`, `NarrowCall`, `LayoutCall`, `TextCall`, `LabelCall`. A theorem over these speaks of the contract itself. `holding b s` is the slice b with the bytes s in it.
+-- What a caller learns of a call for C, as the checker has it from the `ensures` of the call: `OpenCall`, `PointCall`, `FillCall`, `CrossingCall`,
+-- `CutCall`, `CombinedCall`, `JoinCall`, `NarrowCall`, `LayoutCall`, `TextCall`, `LabelCall`. A theorem over these speaks of the contract itself. `holding b s` is the slice b with the bytes s in it.
 use mathlib.Core.List.{List}
 use Prim.Native.Nat.{ℕ}
+use lib.Ieee.{Float}
 use contract.Lifetimes.{Lfts}
 use denote.Ref.{RefT, at-last as holding}
 use Rattle.rules.specs.Cut.{Setup}
 use Rattle.tessarquin.proofs.tessarquin_open.Reads as open-reads
 use Rattle.tessarquin.proofs.tessarquin_point.Reads as point-reads
 use Rattle.tessarquin.proofs.tessarquin_fill.Reads as fill-reads
+use Rattle.tessarquin.proofs.crossed.tessarquin_crossing.Reads as crossing-reads
 use Rattle.tessarquin.proofs.tessarquin_cut.Reads as cut-reads
 use Rattle.tessarquin.proofs.combining.tessarquin_combined.Reads as combined-reads
 use Rattle.tessarquin.proofs.joined.tessarquin_join.Reads as join-reads
@@ -29,6 +31,11 @@ PointCall s array n k answer m left =
 abbrev pub FillCall : List ℕ → ℕ → ℕ → List ℕ → ℕ → List ℕ → Type 0
 FillCall s array n answer m left =
     (κs : Lfts 2) × (b : RefT (List ℕ)) × (a : RefT (List ℕ)) × fill-reads.Learnt κs (holding b s, (array, (n, (holding a answer, tt)))) m (holding b s, (array, (n, (holding a left, tt))))
+
+-- the same of `tessarquin_crossing`, for a level in segment n of an array
+abbrev pub CrossingCall : List ℕ → ℕ → ℕ → Float → List ℕ → ℕ → List ℕ → Type 0
+CrossingCall s array n level answer m left =
+    (κs : Lfts 2) × (b : RefT (List ℕ)) × (a : RefT (List ℕ)) × crossing-reads.Learnt κs (holding b s, (array, (n, (level, (holding a answer, tt))))) m (holding b s, (array, (n, (level, (holding a left, tt)))))
 
 -- lent a block of the bytes s, a slice for the block that is cut and one for c and its length, `tessarquin_cut` returned m and left these bytes in the two
 abbrev pub CutCall : List ℕ → Setup → ℕ → List ℕ → List ℕ → ℕ → List ℕ → List ℕ → Type 0

@@ -2,6 +2,7 @@ pub mod Writing
 pub mod Slices
 pub mod Filling
 pub mod Pairs
+pub mod Crossing
 pub mod Cutting
 pub mod Joining
 pub mod Narrowing

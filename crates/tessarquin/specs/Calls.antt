@@ -2,14 +2,16 @@
 use Prim.Native.Nat.{ℕ, zero, suc, _+_}
 use mathlib.Core.Bool.{cond}
 use mathlib.Core.List.{List, [], _∷_, _++_, map}
+use mathlib.Core.Option.{Option, none, some}
 use lib.ListN.{length}
 use lib.Dec.{leb}
-use lib.Ieee.{binary64, toBits}
+use lib.Ieee.{Float, binary64, toBits}
 use Rattle.rules.specs.Numbers.{allBytes, upFrom, splice}
 use Rattle.rules.specs.Wave.{orderOf, segments, points, firstPoint, sparsing, segmentIndex, subarrayCount, lengthsOf, startsOf}
 use Rattle.rules.specs.Rules.{payloadStart, refusal, opened}
 use Rattle.rules.specs.Points.{value, time, mark, markNumber, markCount, pointRefusal, walkRefusal}
 use Rattle.rules.specs.Cut.{Setup, orElse, count, cutBytes, cutRefusal, combined, combinedRefusal}
+use Rattle.crossings.specs.Crossings.{crossing, crossingRefusal}
 use Rattle.joining.specs.Join.{partsIn, joinedBytes, joinRefusal}
 use Rattle.narrowing.specs.Narrow.{narrowBytes, narrowRefusal}
 use Rattle.block.specs.Opened.{arraysOf}
@@ -59,6 +61,21 @@ fillNumber s a n room = orRoom (walkRefusal s a n) (fillBytes s a n) room
 
 unfoldable pub fillLeft : List ℕ → ℕ → ℕ → List ℕ → List ℕ
 fillLeft s a n answer = leftBy (fillNumber s a n (length answer)) (fillBytes s a n) answer
+
+-- ---- a crossing of the level in segment n of array a: 1 and the point, or 0 and 0 for none
+
+abbrev pub crossingNumbers : Option ℕ → List ℕ
+crossingNumbers (some k) = 1 ∷ k ∷ []
+crossingNumbers none = 0 ∷ 0 ∷ []
+
+abbrev pub crossingBytes : List ℕ → ℕ → ℕ → Float → List ℕ
+crossingBytes s a n level = allBytes 0 8 (crossingNumbers (crossing (opened s) a n level))
+
+unfoldable pub crossingNumber : List ℕ → ℕ → ℕ → Float → ℕ → ℕ
+crossingNumber s a n level room = orRoom (crossingRefusal s a n level) (crossingBytes s a n level) room
+
+unfoldable pub crossingLeft : List ℕ → ℕ → ℕ → Float → List ℕ → List ℕ
+crossingLeft s a n level answer = leftBy (crossingNumber s a n level (length answer)) (crossingBytes s a n level) answer
 
 -- ---- a cut in the order q: the block to one slice, c and the block's length to the other
 

@@ -1,6 +1,7 @@
 // The calls for a host in C: numbers and byte slices only. Each returns 0 or the number of its refusal, and writes its answer as numbers of
 // eight bytes, the high byte first.
 mod combining;
+mod crossed;
 mod joined;
 mod narrowed;
 mod parts;

@@ -1,0 +1,4 @@
+pub mod Firsts
+pub mod Scans
+pub mod Crossings
+pub mod Calls

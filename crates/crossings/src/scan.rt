@@ -1,0 +1,75 @@
+// The first sample between two numbers: blocks of sixty-four samples that have none are passed over, which compiles to vector code, and
+// then one sample after the other.
+ghost use mathlib.Core.Path.{_≡_};
+ghost use mathlib.Core.Bool.{false};
+ghost use Prim.Native.Nat.{ℕ, _<_, _≤_};
+ghost use lib.ListN.{length, getD};
+ghost use lib.IntN.{pos};
+ghost use Rattle.fills.specs.Fills.{Holds, sampleAt};
+ghost use Rattle.levels.specs.Levels.{between};
+ghost use Rattle.crossings.specs.Answers.{First};
+
+// The number of the first of `count` samples from `from` that stands from low to high, or `count`.
+pub(crate) fn first_between(
+    block: &[u8],
+    from: usize,
+    count: usize,
+    size: usize,
+    order: u32,
+    low: i16,
+    high: i16,
+) -> usize
+    requires { ⌜ Holds (now block) from count size ⌝ }
+    ensures { λ r. ⌜ First (λ k. between low high (sampleAt order size (now (block .entry)) from k)) count r ⌝ }
+{
+    let mut i = passed(block, from, count, size, order, low, high);
+    while i < count {
+        let z = fills::sample(block, from, i, size, order);
+        if (low <= z) & (z <= high) {
+            return i;
+        }
+        i += 1;
+    }
+    count
+}
+
+// How many samples are passed over, none of them from low to high.
+fn passed(
+    block: &[u8],
+    from: usize,
+    count: usize,
+    size: usize,
+    order: u32,
+    low: i16,
+    high: i16,
+) -> usize
+    requires { ⌜ Holds (now block) from count size ⌝ }
+    ensures { λ r. ⌜ r ≤ count ⌝ }
+    ensures { λ r. ⌜ ((j : ℕ) → j < r → between low high (sampleAt order size (now (block .entry)) from j) ≡ false) ⌝ }
+{
+    let mut samples = [0i16; 64];
+    let mut i = 0;
+    while 64 <= count - i {
+        fills::read_samples(block, from, i, size, order, &mut samples);
+        if any_between(&samples, low, high) {
+            return i;
+        }
+        i += 64;
+    }
+    i
+}
+
+// Whether one of sixty-four samples stands from low to high.
+fn any_between(samples: &[i16; 64], low: i16, high: i16) -> bool
+    requires { ⌜ length (now samples) ≡ 64 ⌝ }
+    ensures { λ r. ⌜ (r ≡ false → (k : ℕ) → k < 64 → between low high (getD (now (samples .entry)) k (pos 0)) ≡ false) ⌝ }
+{
+    let mut any = false;
+    let mut k = 0;
+    while k < 64 {
+        let z = samples[k];
+        any = any | ((low <= z) & (z <= high));
+        k += 1;
+    }
+    any
+}
