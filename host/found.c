@@ -207,8 +207,7 @@ static double double_of(struct head h, struct doubles d, size_t i)
     return tessarquin_field_double(d.bytes + 8 * i, h.order);
 }
 
-/* Whether x is infinite or not a number; then it says so. */
-static int not_finite(FILE *to, const char *name, double x)
+int not_finite(FILE *to, const char *name, double x)
 {
     if (isfinite(x))
         return 0;

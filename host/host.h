@@ -126,16 +126,46 @@ void put_segment(struct alone alone, const struct opened *o, uint32_t n);
 /* The TRIGGER_TIME of segment n, where the block has trigger times. */
 double trigger_time(const struct opened *o, uint32_t n);
 
+/* ---- range.c: the values that samples can have */
+
+/* The lowest and the highest sample, and the gain by which they are values. */
+struct limits {
+    float low, high;
+    double gain;
+};
+
+/* The lowest and the highest number that a sample can be. */
+struct limits rails_of(const struct opened *o);
+
+/* The least and the greatest sample that the instrument allows, as it states them: it may clip there, before the rail. It
+   may state none. */
+struct limits stated_limits(const struct opened *o);
+int are_stated(struct limits limits);
+
+/* Bytes that were narrowed keep the limits of words, which no byte reaches: nothing else tells them from other bytes. */
+int were_words(const struct opened *o);
+
+/* The values of both, the lower one first. */
+struct range {
+    double from, to;
+};
+
+struct range values_of(const struct opened *o, struct limits limits);
+
 /* ---- found.c: what was found in a block that is refused */
 
 /* In words, with the numbers; nothing where nothing was found. */
 void found_in_block(FILE *to, struct block block, uint32_t refusal);
+
+/* Whether x is infinite or not a number; then it says so. */
+int not_finite(FILE *to, const char *name, double x);
 
 /* ---- why.c: how a refusal is told */
 
 /* What was asked of a block, where something was. */
 struct asked {
     uint32_t array, segment, point, sp;
+    double level;
 };
 
 /* The end: one line with what is refused, its number, what was found there, and what can be done. `what` is what was
@@ -155,7 +185,49 @@ int differ(const struct opened *one, const struct opened *other);
 /* The fields of `one` that are others than those of `other`, both as they are there, and the user text. */
 void found_different(FILE *to, const struct opened *one, const struct opened *other);
 
-/* ---- show.c, rail.c, points.c, join.c, combined.c, narrow.c: the commands */
+/* ---- decimal.c: numbers as text; each answers the end of what it wrote */
+
+#define DECIMAL_MOST 32
+
+/* The fewest of 15, 16 and 17 digits that are read back as x, without zeros at their end: at most DECIMAL_MOST bytes. */
+char *put_decimal(char *to, double x);
+
+/* A float in the fewest digits, from six on, that are read back as the same float: at most DECIMAL_MOST bytes. */
+char *put_float(char *to, float x);
+
+/* x in so many digits, from 1 to 17, without zeros at their end: at most DECIMAL_MOST bytes. */
+char *put_digits(char *to, double x, int digits);
+
+/* A whole number: at most 10 bytes. */
+char *put_count(char *to, uint32_t n);
+
+/* ---- lines.c: points as lines, or as rows of a table */
+
+/* How points are printed: as a table with a heading, or in plain lines; with so many digits, or 0 for as many as are
+   needed to read the same number back. */
+struct form {
+    int csv, digits;
+};
+
+/* The table's heading. */
+void print_headings(const struct opened *o);
+
+/* What the lines of segment n have in common: in a table of a file with trigger times they have a cell with its own. */
+struct lines {
+    uint32_t segment;
+    struct form form;
+    char cell[DECIMAL_MOST + 1];
+    size_t cell_length;
+};
+
+struct lines lines_of(const struct opened *o, uint32_t n, struct form form);
+
+/* Point k, as the library answered it: segment, point, time, value, mark; and the line of a segment that has none: the
+   segment and the word none, or in a table a row without point, time, value and mark. */
+void print_point(const struct lines *lines, uint32_t k, const uint8_t *answer);
+void print_none(const struct lines *lines);
+
+/* ---- show.c, rail.c, points.c, cross.c, join.c, combined.c, narrow.c: the commands */
 
 /* Numbers that were worked out have so many digits. */
 void show(const char *name, int digits);
@@ -166,14 +238,11 @@ void show_rail(const struct opened *o, uint32_t array);
 /* How many samples of an array stand at the rail. */
 uint64_t samples_at_rail(const struct opened *o, uint32_t array);
 
-/* How points are printed: as a table with a heading, or in plain lines; with so many digits, or 0 for as many as are
-   needed to read the same number back. */
-struct form {
-    int csv, digits;
-};
-
 /* Of all segments where `segment` is null. */
 void print_points(const char *name, uint32_t array, const uint32_t *segment, struct form form);
+
+/* Of each segment, or of this one, the first point at or above the level. */
+void print_crossings(const char *name, double level, uint32_t array, const uint32_t *segment, struct form form);
 
 /* The segments in these files, in whatever order, as one block to `to`. */
 void join(const char *to, int replace, const char *const *names, size_t count);
@@ -221,21 +290,5 @@ const char *processing(int n);
 const char *coupling(int n);
 const char *bandwidth_limit(int n);
 const char *wave_source(int n);
-
-/* ---- decimal.c: numbers as text; each answers the end of what it wrote */
-
-#define DECIMAL_MOST 32
-
-/* The fewest of 15, 16 and 17 digits that are read back as x, without zeros at their end: at most DECIMAL_MOST bytes. */
-char *put_decimal(char *to, double x);
-
-/* A float in the fewest digits, from six on, that are read back as the same float: at most DECIMAL_MOST bytes. */
-char *put_float(char *to, float x);
-
-/* x in so many digits, from 1 to 17, without zeros at their end: at most DECIMAL_MOST bytes. */
-char *put_digits(char *to, double x, int digits);
-
-/* A whole number: at most 10 bytes. */
-char *put_count(char *to, uint32_t n);
 
 #endif

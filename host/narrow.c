@@ -95,7 +95,7 @@ void narrow(const char *name, const char *to, int replace)
     uint8_t *out = memory(room), answer[TESSARQUIN_NARROW_BYTES];
     uint32_t refusal = tessarquin_narrow(b.bytes, b.length, out, room, answer, sizeof answer);
     if (refusal)
-        refuse_question("a narrowing of ", &o, (struct asked){0, 0, 0, 0}, refusal);
+        refuse_question("a narrowing of ", &o, (struct asked){0}, refusal);
     size_t length = (size_t)tessarquin_number(answer, TESSARQUIN_NARROW_LENGTH);
     struct opened narrowed = open_block((struct block){b.file, out, length});
     struct loss loss = {0};

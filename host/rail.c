@@ -22,7 +22,7 @@ static uint64_t count_of(const struct opened *o, struct block b, uint32_t array,
 {
     uint32_t refusal = tessarquin_fill(b.bytes, b.length, array, 1, answer, TESSARQUIN_FILL_BYTES(o->points));
     if (refusal)
-        refuse_question("a segment of ", o, (struct asked){array, n, 0, 0}, refusal);
+        refuse_question("a segment of ", o, (struct asked){.array = array, .segment = n}, refusal);
     return tessarquin_number(answer, o->points);
 }
 

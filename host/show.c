@@ -30,7 +30,7 @@ static struct point point_of(const struct opened *o, uint32_t array, uint32_t se
     uint8_t answer[TESSARQUIN_POINT_BYTES];
     uint32_t refusal = tessarquin_point(o->block.bytes, o->block.length, array, segment, k, answer, sizeof answer);
     if (refusal)
-        refuse_question("a point of ", o, (struct asked){array, segment, k, 0}, refusal);
+        refuse_question("a point of ", o, (struct asked){.array = array, .segment = segment, .point = k}, refusal);
     return (struct point){tessarquin_double(answer, TESSARQUIN_POINT_VALUE), tessarquin_double(answer, TESSARQUIN_POINT_TIME),
                           tessarquin_number(answer, TESSARQUIN_POINT_MARK) != 0};
 }
@@ -169,48 +169,35 @@ static void show_record(const struct opened *o)
 
 /* ---- the vertical side */
 
-/* The values of two samples by this gain, the lower one first, and the samples themselves, with what they are. */
-static void print_values_of(float low, float high, double gain, const char *as, const struct opened *o, struct part unit)
+/* The values of two samples, the lower one first, and the samples themselves, with what they are. */
+static void print_limits(const struct opened *o, struct limits limits, const char *as, struct part unit)
 {
-    double offset = (double)float_at(o, TESSARQUIN_AT_VERTICAL_OFFSET);
-    double one = gain * (double)low - offset, other = gain * (double)high - offset;
-    print_range(one < other ? one : other, one < other ? other : one, unit);
+    struct range values = values_of(o, limits);
+    print_range(values.from, values.to, unit);
     fputs(" (samples ", stdout);
-    print_float(low);
+    print_float(limits.low);
     fputs(" to ", stdout);
-    print_float(high);
+    print_float(limits.high);
     printf("%s)\n", as);
 }
 
-/* Bytes that were narrowed keep the limits of words, which no byte reaches: nothing else tells them from other bytes. */
-static int were_words(const struct opened *o)
-{
-    float low = float_at(o, TESSARQUIN_AT_MIN_VALUE), high = float_at(o, TESSARQUIN_AT_MAX_VALUE);
-    return o->type == TESSARQUIN_BYTE && low >= INT16_MIN && high <= INT16_MAX && (low < INT8_MIN || high > INT8_MAX);
-}
-
-/* The least and the greatest sample that the instrument allows, as it states them: it may clip there, before the rail.
-   Those of words stand for what they did before the gain was made 256 times itself. */
 static void show_limits(const struct opened *o, struct part unit)
 {
-    float low = float_at(o, TESSARQUIN_AT_MIN_VALUE), high = float_at(o, TESSARQUIN_AT_MAX_VALUE);
-    double gain = (double)float_at(o, TESSARQUIN_AT_VERTICAL_GAIN);
+    print_name("full range");
+    print_limits(o, rails_of(o), "", unit);
     print_name("stated limits");
-    if (low == 0 && high == 0)
-        puts("(none)");
+    if (are_stated(stated_limits(o)))
+        print_limits(o, stated_limits(o), were_words(o) ? ", as words" : "", unit);
     else
-        print_values_of(low, high, were_words(o) ? gain / 256 : gain, were_words(o) ? ", as words" : "", o, unit);
+        puts("(none)");
 }
 
 static void show_vertical(const struct opened *o, struct part unit)
 {
     float gain = float_at(o, TESSARQUIN_AT_VERTICAL_GAIN), offset = float_at(o, TESSARQUIN_AT_VERTICAL_OFFSET);
-    int low = o->type == TESSARQUIN_WORD ? INT16_MIN : INT8_MIN, high = o->type == TESSARQUIN_WORD ? INT16_MAX : INT8_MAX;
     print_text("values in", unit);
     print_float_in("gain", gain, unit);
     print_float_in("offset", offset, unit);
-    print_name("full range");
-    print_values_of((float)low, (float)high, (double)gain, "", o, unit);
     show_limits(o, unit);
     print_float_in("probe", float_at(o, TESSARQUIN_AT_PROBE_ATT), (struct part){NULL, 0});
     print_name("coupling");

@@ -4,19 +4,22 @@
 
 #include <ctype.h>
 #include <errno.h>
+#include <float.h>
 #include <limits.h>
+#include <math.h>
 #include <signal.h>
 #include <stdlib.h>
 
 static const char help[] =
     "trace " TESSARQUIN_VERSION ": reads LECROY_2_3 waveform files\n"
     "\n"
-    "    trace show [--digits N] FILE                                what the file holds\n"
-    "    trace points [--csv] [--digits N] FILE [ARRAY [SEGMENT]]    its points, in volts and seconds\n"
-    "    trace cut [-f] FILE OUT SP NP FP SN hi|lo                   a smaller file\n"
-    "    trace join [-f] OUT FILE..                                  one file of segments that were fetched one by one\n"
-    "    trace combined SP NP FP SN C [SP NP FP SN C]..              the one cut that stands for cuts of cuts\n"
-    "    trace narrow [-f] FILE OUT                                  a file of half the size, with less precise values\n"
+    "    trace show [--digits N] FILE                                     what the file holds\n"
+    "    trace points [--csv] [--digits N] FILE [ARRAY [SEGMENT]]         its points, in volts and seconds\n"
+    "    trace cross [--csv] [--digits N] FILE LEVEL [ARRAY [SEGMENT]]    the first point of a segment at or above a level\n"
+    "    trace cut [-f] FILE OUT SP NP FP SN hi|lo                        a smaller file\n"
+    "    trace join [-f] OUT FILE..                                       one file of segments that were fetched one by one\n"
+    "    trace combined SP NP FP SN C [SP NP FP SN C]..                   the one cut that stands for cuts of cuts\n"
+    "    trace narrow [-f] FILE OUT                                       a file of half the size, with less precise values\n"
     "    trace --help | --version\n"
     "\n"
     "FILE may be - for standard input. Words before the # of a block, as an oscilloscope answers, are skipped, where the #\n"
@@ -31,6 +34,13 @@ static const char help[] =
     "sample stands at the rail, else 0. All segments, or SEGMENT (from 1 on) alone. Each number has as many digits as are\n"
     "needed to read the same number back; --digits N, from 1 to 17, gives it N. --csv prints a table with a heading: the\n"
     "units stand there, and between value and mark the TRIGGER_TIME of the segment, where the file has trigger times.\n"
+    "\n"
+    "cross prints a line for each segment of array 1, or of ARRAY, or for SEGMENT alone: its first point whose value is at\n"
+    "LEVEL or above, as points prints it, or the segment and the word none (in a table a row with empty cells). none is an\n"
+    "answer too, and ends with 0. LEVEL is a decimal number, such as 42, -0.5 or 4.2e1, and is read to the nearest double.\n"
+    "All digits of a value count: 6.9999999 is below 7, though show prints 7 for it. At point 0 the segment starts at LEVEL\n"
+    "or above, and whether and when the signal rose to it the samples do not say: how many do so is told on standard error,\n"
+    "and also where LEVEL is beyond what samples can say. Those that rise to it: trace cross FILE LEVEL | awk '$2 + 0 > 0'\n"
     "\n"
     "cut keeps every SP-th point of each segment from point FP on, at most NP of them (0: all), of segment SN alone (0: of\n"
     "all), and writes numbers with the high byte first (hi) or the low byte (lo). It never loses a file: OUT is there\n"
@@ -104,6 +114,19 @@ static uint32_t told_number(const char *word)
     return n <= UINT32_MAX && is(word, grouped(n)) ? (uint32_t)n : number(word);
 }
 
+/* The nearest double. Words for the infinities and for no number are passed on: the library judges them. A number with an
+   x in it would sooner be a sample than a level. */
+static double level(const char *word)
+{
+    char *end;
+    double x = strtod(word, &end);
+    if (end == word || *end || isspace((unsigned char)*word) || strpbrk(word, "xX"))
+        fail(USAGE, "%s is not a decimal number, such as 42, -0.5 or 4.2e1", *word ? word : "an empty word");
+    if (isinf(x) && strpbrk(word, "0123456789"))
+        fail(USAGE, "%s is beyond the doubles, which end at %.17g", word, copysign(DBL_MAX, x));
+    return x;
+}
+
 static int digits(const char *word)
 {
     char *end;
@@ -113,10 +136,12 @@ static int digits(const char *word)
     return (int)n;
 }
 
-/* A word with a - before it that is no number and not - itself. */
+/* A word with a - before it that is no number, as -5, -.5 and -inf are, and not - itself. */
 static int is_option(const char *word)
 {
-    return word[0] == '-' && word[1] && !isdigit((unsigned char)word[1]);
+    char *end;
+    strtod(word, &end);
+    return word[0] == '-' && word[1] && !strchr(".0123456789", word[1]) && *end;
 }
 
 static struct line read_line(const struct command *c, int count, char **words)
@@ -157,6 +182,13 @@ static void run_points(const struct line *line)
     print_points(line->words[0], array, line->count > 2 ? &segment : NULL, (struct form){line->csv, line->digits});
 }
 
+static void run_cross(const struct line *line)
+{
+    double at = level(line->words[1]);
+    uint32_t array = line->count > 2 ? number(line->words[2]) : 1, segment = line->count > 3 ? number(line->words[3]) : 1;
+    print_crossings(line->words[0], at, array, line->count > 3 ? &segment : NULL, (struct form){line->csv, line->digits});
+}
+
 static uint32_t order(const char *word)
 {
     if (!is(word, "hi") && !is(word, "lo"))
@@ -174,7 +206,7 @@ static void run_cut(const struct line *line)
     uint8_t *out = memory(room), answer[TESSARQUIN_CUT_BYTES];
     uint32_t refusal = tessarquin_cut(b.bytes, b.length, sp, np, fp, sn, into, out, room, answer, sizeof answer);
     if (refusal)
-        refuse_question("a cut of ", &o, (struct asked){0, sn, fp, sp}, refusal);
+        refuse_question("a cut of ", &o, (struct asked){.segment = sn, .point = fp, .sp = sp}, refusal);
     size_t length = (size_t)tessarquin_number(answer, TESSARQUIN_CUT_LENGTH);
     write_file((struct files){&b.file, 1}, to, line->replace, out, length);
     say("%s of each segment kept, %s written to %s", counted((int64_t)tessarquin_number(answer, TESSARQUIN_CUT_COUNT), "point"),
@@ -209,6 +241,7 @@ static void run_narrow(const struct line *line)
 static const struct command commands[] = {
     {"show", "one FILE", 1, 1, DIGITS, run_show},
     {"points", "FILE [ARRAY [SEGMENT]]", 1, 3, CSV | DIGITS, run_points},
+    {"cross", "FILE LEVEL [ARRAY [SEGMENT]]", 2, 4, CSV | DIGITS, run_cross},
     {"cut", "FILE OUT SP NP FP SN hi|lo", 7, 7, FORCE, run_cut},
     {"join", "OUT FILE..", 2, ANY, FORCE, run_join},
     {"combined", "SP NP FP SN C for each cut", 1, ANY, 0, run_combined},

@@ -7,6 +7,15 @@
 
 /* ---- what was asked */
 
+/* There may be no such array, and the level may be none either: both have the number 9. */
+static void found_choice(FILE *to, const struct opened *o, struct asked asked)
+{
+    int there = asked.array >= 1 && asked.array <= o->arrays;
+    if (!there)
+        fprintf(to, "it has %s, and array %s was asked for", counted(o->arrays, "array"), grouped(asked.array));
+    not_finite(to, there ? "the level" : ", and the level", asked.level);
+}
+
 static void found_gain(FILE *to, float gain)
 {
     char number[DECIMAL_MOST + 1];
@@ -20,7 +29,7 @@ static void found_in_question(FILE *to, const struct opened *o, struct asked ask
 {
     switch (refusal) {
     case TESSARQUIN_CHOICE:
-        fprintf(to, "it has %s, and array %s was asked for", counted(o->arrays, "array"), grouped(asked.array));
+        found_choice(to, o, asked);
         break;
     case TESSARQUIN_SEGMENT:
         fprintf(to, "it has %s, and segment %s was asked for", counted(o->segments, "segment"), grouped(asked.segment));

@@ -8,7 +8,7 @@
  * starts at byte 2 + d.
  * Whatever stands before the '#' is for the caller to remove.
  *
- * Ten calls, each proved to meet its description for every input:
+ * Eleven calls, each proved to meet its description for every input:
  *
  *     tessarquin_open       is this a block that obeys the template, and what is in it?
  *     tessarquin_layout     where do the descriptor and the other parts stand?
@@ -16,6 +16,7 @@
  *     tessarquin_label      where does the label stand, or is there none?
  *     tessarquin_point      one point, in volts and seconds, and whether its sample stands at the rail
  *     tessarquin_fill       all the points of a segment, in volts, and how many samples stand at the rail
+ *     tessarquin_crossing   the first point of a segment at or above a level, or that there is none
  *     tessarquin_cut        a smaller block: some segments, every so many-th point, in either byte order
  *     tessarquin_combined   the setup of the one cut that stands for two cuts, or for any number of them
  *     tessarquin_join       one block of the segments that were fetched one by one, in whatever order they arrived
@@ -60,11 +61,11 @@ extern "C" {
 /* The version of these calls. Below 1.0 the second number moves where a call takes or answers something else, and where
    one is added. Since 0.2 tessarquin_point answers 24 bytes (16 before), and tessarquin_fill eight bytes behind its M
    values: whoever fills segments back to back leaves room for them. Since 0.3 there is tessarquin_join, with the refusal
-   16, since 0.4 tessarquin_combined, and since 0.5 tessarquin_narrow, with the refusal 19; what was there before is as it
-   was. Header and archive have to be of one version. */
+   16, since 0.4 tessarquin_combined, since 0.5 tessarquin_narrow, with the refusal 19, and since 0.6 tessarquin_crossing;
+   what was there before is as it was. Header and archive have to be of one version. */
 #define TESSARQUIN_VERSION_MAJOR 0
-#define TESSARQUIN_VERSION_MINOR 5
-#define TESSARQUIN_VERSION "0.5"
+#define TESSARQUIN_VERSION_MINOR 6
+#define TESSARQUIN_VERSION "0.6"
 
 /*
  * Why a call is refused, in the order of the checks: the first that applies is the number returned. Each entry is the
@@ -90,8 +91,8 @@ extern "C" {
       "fetch the block again: its descriptor or a table is damaged")                                                   \
     X(TIME, 20, "a TRIGGER_TIME is less than the one before it",                                                       \
       "fetch the block again: its segments are out of order, or their times are damaged")                              \
-    X(CHOICE, 9, "there is no such array, or no such byte order",                                                      \
-      "ask for one that is there")                                                                                     \
+    X(CHOICE, 9, "there is no such array, or no such byte order, or the level is infinite or not a number",            \
+      "ask for one that is there, or for a finite level")                                                              \
     X(SEGMENT, 10, "there is no such segment",                                                                         \
       "ask for one that is there, from 1 on, or have a cut keep all by 0")                                             \
     X(POINT, 11, "there is no such point in a segment",                                                                \
@@ -271,6 +272,45 @@ uint32_t tessarquin_fill(const uint8_t *block, size_t block_len,
 
 /* How many bytes the answer of a fill has, by the points of a segment: their values, and the count. */
 #define TESSARQUIN_FILL_BYTES(points) (((size_t)(points) + 1) * TESSARQUIN_VALUE_BYTES)
+
+/* The numbers that tessarquin_crossing answers. */
+enum tessarquin_crossing_number {
+    TESSARQUIN_CROSSING_FOUND, /* 1 where there is such a point, or 0 where there is none */
+    TESSARQUIN_CROSSING_POINT  /* its number, from 0 to M-1, or 0 where there is none */
+};
+#define TESSARQUIN_CROSSING_BYTES 16u
+
+/*
+ * The first point of a segment whose value is at or above a level, in the unit VERTUNIT: refusals 1 to 8, 20, 9 and 10,
+ * then 13 if answer_len is below TESSARQUIN_CROSSING_BYTES. 9 is given for an array that is not there, and for a level
+ * that is infinite or not a number.
+ *
+ * It is the least k for which the value that tessarquin_point answers is >= level, as C compares doubles: a value equal
+ * to the level is at it, and -0.0 is at 0.0. There is none exactly where every value of the segment is below the level.
+ * The whole double counts: with a VERTICAL_GAIN of 0.7f the sample 10 has the value 6.9999998807907104, below 7.
+ *
+ * Two answers say less than they seem to. Point 0 says that the segment starts at or above the level: whether and when
+ * the signal rose to it the samples do not say. And where the level is above the value of the rail, there is none
+ * whatever the signal did: the samples of one that went beyond have the mark. host/cross.c tells of both.
+ *
+ * No sample behind the point answered counts, and the samples are not read to the end of the segment: where a record of
+ * millions of points crosses near its start, the call costs little more than tessarquin_open. Of a block with very many
+ * segments each call judges the trigger times of all, as said at tessarquin_point.
+ *
+ * For the time of the first overvoltage of a 400 V bus, in segment 1 of array 1:
+ *
+ *     uint8_t crossing[TESSARQUIN_CROSSING_BYTES], point[TESSARQUIN_POINT_BYTES];
+ *     if (tessarquin_crossing(block, block_len, 1, 1, 405.0, crossing, sizeof crossing) == TESSARQUIN_OK) {
+ *         uint32_t k = (uint32_t)tessarquin_number(crossing, TESSARQUIN_CROSSING_POINT);
+ *         if (tessarquin_number(crossing, TESSARQUIN_CROSSING_FOUND) == 0)
+ *             printf("never\n");
+ *         else if (tessarquin_point(block, block_len, 1, 1, k, point, sizeof point) == TESSARQUIN_OK)
+ *             printf("at %g s\n", tessarquin_double(point, TESSARQUIN_POINT_TIME));
+ *     }
+ */
+uint32_t tessarquin_crossing(const uint8_t *block, size_t block_len,
+                             uint32_t array, uint32_t segment, double level,
+                             uint8_t *answer, size_t answer_len);
 
 /* ---- cuts */
 

@@ -140,6 +140,14 @@ static inline uint32_t fill(struct slice block, uint32_t array, uint32_t segment
     return refusal;
 }
 
+static inline uint32_t crossing(struct slice block, uint32_t array, uint32_t segment, double level, size_t room)
+{
+    struct slice answer = lend(room);
+    uint32_t refusal = tessarquin_crossing(block.bytes, block.length, array, segment, level, answer.bytes, room);
+    take(answer, refusal, 2);
+    return refusal;
+}
+
 /* A cut to a slice of `room` bytes, which the caller gives back. */
 static inline uint32_t cut(struct slice block, const uint32_t *setup, uint32_t order, struct slice out, size_t room)
 {

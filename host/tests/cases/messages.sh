@@ -123,6 +123,7 @@ backwards='the TRIGGER_TIME of segment 4 is 400, and that of segment 5 is 1'
 refused 20 "$backwards" "$folder/damaged" show "$folder/damaged"
 refused 20 "$backwards" "$folder/damaged" points "$folder/damaged"
 refused 20 "$backwards" "$folder/damaged" points "$folder/damaged" 1 1
+refused 20 "$backwards" "$folder/damaged" cross "$folder/damaged" inf 3 9
 refused 20 "$backwards" "$folder/damaged" cut "$folder/damaged" "$folder/none" 1 0 0 1 hi
 refused 20 "$backwards" "$folder/damaged" narrow "$folder/damaged" "$folder/none"
 [ ! -e "$folder/none" ] || wrong 'a refused sequence was cut or narrowed'
@@ -134,6 +135,13 @@ said=$($run "$programs/first" <"$folder/damaged" || true)
 refused 9 'it has 1 array, and array 2 was asked for' "a point of $example" points "$example" 2
 refused 9 'it has 1 array, and array 0 was asked for' "a point of $example" points "$example" 0 2
 refused 10 'it has 1 segment, and segment 2 was asked for' "a point of $example" points "$example" 1 2
+refused 9 'it has 1 array, and array 2 was asked for' "a crossing of $example" cross "$example" 1 2 9
+refused 9 'the level is infinite' "a crossing of $example" cross "$example" inf
+refused 9 'the level is minus infinity' "a crossing of $example" cross "$example" -inf 1 9
+refused 9 'the level is not a number' "a crossing of $example" cross "$example" nan
+refused 9 'it has 1 array, and array 0 was asked for, and the level is infinite' "a crossing of $example" cross "$example" inf 0
+refused 10 'it has 3 segments, and segment 4 was asked for' "a crossing of $sample" cross "$sample" 1 1 4
+refused 10 'it has 3 segments, and segment 0 was asked for' "a crossing of $sample" cross --csv "$sample" 1 1 0
 refused 10 'it has 3 segments, and segment 0 was asked for' "a point of $sample" points --csv "$sample" 1 0
 refused 10 'it has 3 segments, and segment 4 was asked for' "a cut of $sample" cut "$sample" "$folder/none" 1 0 0 4 hi
 refused 11 'a segment has 16 points, from 0 on, and point 16 was asked for' "a cut of $sample" cut "$sample" "$folder/none" 1 0 16 0 hi

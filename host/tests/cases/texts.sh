@@ -1,15 +1,15 @@
 # What the program says of itself, what README prints, the starter for other machines, and what the makefile says is
 # missing.
 
-expect 0 'trace 0.5: reads LECROY_2_3 waveform files' --help
+expect 0 'trace 0.6: reads LECROY_2_3 waveform files' --help
 cp "$folder/out" "$folder/help"
-for words in 'show --help' 'points --help' 'cut --help' 'join --help' 'combined --help' 'narrow --help' '--help show'; do
+for words in 'show --help' 'points --help' 'cross --help' 'cut --help' 'join --help' 'combined --help' 'narrow --help' '--help show'; do
     asked $words
     [ "$got" = 0 ] || wrong "trace $words: status $got"
     same "$folder/out" "$folder/help" "trace $words says something else"
 done
-expect 0 'trace 0.5' --version
-expect 0 'trace 0.5' --version x
+expect 0 'trace 0.6' --version
+expect 0 'trace 0.6' --version x
 expect 2 'trace: nothing was asked; trace --help tells how it is called'
 expect 2 'trace: shw is not known; trace --help tells how it is called' shw "$sample"
 expect 2 'trace: an empty word is not known; trace --help tells how it is called' ''
@@ -55,10 +55,11 @@ grep -qF "prints \`$($run "$programs/first" <"$sample")\`, the first point of th
 
 [ "$($run "$programs/printed" <"$sample")" = 'V
 2 of 16 at the rail
+at 9.34888e-15 s
 every 12th point from point 40, 5 points
 3 segments in 525 bytes
 477 bytes' ] || wrong "the lines of the header print $($run "$programs/printed" <"$sample")"
-grep -qF "prints \"$($run "$programs/printed" <"$sample" | sed -n 3p)\"" include/tessarquin.h || wrong 'the header says something else than its lines print'
+grep -qF "prints \"$($run "$programs/printed" <"$sample" | sed -n 4p)\"" include/tessarquin.h || wrong 'the header says something else than its lines print'
 
 # ---- where the machine is not x86-64, `trace` is a script; a link to it starts the same program
 
