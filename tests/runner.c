@@ -6,7 +6,8 @@
  * where it takes fewer), and the lengths of block, fallback, out, answer and marks; then the bytes of these
  * five slices. A reply is what the call returned, in eight bytes, and in four which slices have lost the
  * known bytes before them (bit 0 block, 1 fallback, 2 out, 3 answer, 4 marks); then the bytes of the slices
- * again. Floats are lent, and come back, as the bytes that they have in memory.
+ * again. Floats are lent, and come back, as the bytes that they have in memory; a level is two of the nine
+ * numbers, the low half of its bits and the high half.
  *
  * Every slice ends where memory that cannot be touched begins, so a call that reads or writes
  * behind a slice ends this program by a signal. */
@@ -25,7 +26,7 @@
 
 enum kind {
     PROBE, OPEN, POINT, FILL, CUT, FLOATS, WALK, STEP, USER_TEXT, LABEL, LAYOUT, TEXT_PLACE, LABEL_PLACE, WALKED_FLOATS,
-    JOIN, COMBINED, NARROW
+    JOIN, COMBINED, NARROW, CROSSING
 };
 enum { BLOCK, FALLBACK, OUT, ANSWER, MARKS, SLICES };
 
@@ -131,6 +132,15 @@ static double *floats(const struct slice *slice)
     return (double *)start(slice);
 }
 
+/* The double with these bits, whatever number or none it is. */
+static double double_of(uint32_t low, uint32_t high)
+{
+    uint64_t bits = (uint64_t)high << 32 | low;
+    double number;
+    memcpy(&number, &bits, sizeof number);
+    return number;
+}
+
 /* The calls that are not in the library. */
 static uint64_t call_of_tests(enum kind kind, const uint32_t n[NUMBERS], const struct slice lent[SLICES])
 {
@@ -174,6 +184,8 @@ static uint64_t call(enum kind kind, const uint32_t n[NUMBERS], const struct sli
         return tessarquin_point(block, block_len, n[0], n[1], n[2], answer, answer_len);
     case FILL:
         return tessarquin_fill(block, block_len, n[0], n[1], answer, answer_len);
+    case CROSSING:
+        return tessarquin_crossing(block, block_len, n[0], n[1], double_of(n[2], n[3]), answer, answer_len);
     case CUT:
         return tessarquin_cut(block, block_len, n[0], n[1], n[2], n[3], n[4], out, out_len, answer, answer_len);
     case COMBINED:

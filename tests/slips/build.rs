@@ -9,7 +9,7 @@ use std::{env, fs};
 const LAW: &str = "../src/law";
 const LIST: &str = "wrong.txt";
 /// What a version may be caught by with nothing to compare with; src/main.rs has a way for each.
-const FLAWS: [&str; 12] = [
+const FLAWS: [&str; 16] = [
     "breaks demand 3",
     "breaks a chain",
     "breaks a rule",
@@ -22,6 +22,10 @@ const FLAWS: [&str; 12] = [
     "moves a value",
     "hangs on the cut",
     "narrows twice",
+    "misses a value",
+    "looks behind",
+    "falls back",
+    "moves in a cut",
 ];
 
 /// One entry of the list; a line left out has no wrong one.

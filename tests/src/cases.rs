@@ -2,6 +2,7 @@
 
 use crate::chains;
 use crate::compare::{Checker, Difference};
+use crate::crossings;
 use crate::draft::{digits, Draft};
 use crate::edges::{self, Edge};
 use crate::headers;
@@ -33,6 +34,7 @@ pub fn run(checker: &mut Checker, seed: u64, case: u64) -> (String, Result<(), D
     }
     match case % 8 {
         0 if case % 32 == 8 => narrows::run(checker, case / 32, random),
+        0 if case % 32 == 24 => crossings::run(checker, case / 32, random),
         0 => {
             let block = right_block(random);
             ("right block".into(), ask_much(checker, &block, random))
@@ -179,7 +181,7 @@ fn ask_any(checker: &mut Checker, block: &[u8], random: &mut Random) -> Result<(
 /// Each C call once but a join, and two of the test calls.
 fn ask_little(checker: &mut Checker, block: &[u8], random: &mut Random) -> Result<(), Difference> {
     let extent = Extent::of(block);
-    let mut calls = extent.c_calls(random);
+    let mut calls = extent.c_calls(block, random);
     let others = extent.test_calls(random);
     calls.extend([random.pick(&others), random.pick(&others)]);
     calls.push(chains::any_combined(random));
@@ -191,6 +193,7 @@ fn ask_much(checker: &mut Checker, block: &[u8], random: &mut Random) -> Result<
     let mut calls = vec![Call::Open];
     calls.extend((0..6).map(|_| extent.point(random)));
     calls.extend((0..2).map(|_| extent.fill(random)));
+    calls.extend((0..3).map(|_| extent.crossing(block, random)));
     calls.extend((0..2).map(|_| extent.cut(random)));
     calls.extend((0..2).map(|_| extent.right_cut(random)));
     calls.push(Call::Narrow);

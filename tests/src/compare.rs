@@ -1,7 +1,8 @@
 //! The comparison: every reply against that of the independent implementation, byte for byte.
 
+use crate::calls::Calls;
 use crate::chains::MOST_CUTS;
-use crate::request::{Call, Calls, Core, Reply, Request};
+use crate::request::{Call, Core, Reply, Request};
 use std::collections::BTreeMap;
 use std::fmt::Display;
 
@@ -36,6 +37,17 @@ pub struct Tally {
     /// Narrowings and cuts that changed places and wrote the same, and those refused both ways.
     pub changed_places: u64,
     pub refused_both_ways: u64,
+    /// Crossings at the places they were made for, or none.
+    pub placed_crossings: u64,
+    /// Crossings at the first value at the level, and segments whose values are all below it.
+    pub crossings: u64,
+    pub uncrossed: u64,
+    /// Crossings that are the same with other samples behind them.
+    pub changed_behind: u64,
+    /// Levels that were raised and not crossed earlier.
+    pub raised_levels: u64,
+    /// Cuts that cross where their points do.
+    pub cut_crossings: u64,
 }
 
 impl Tally {
@@ -54,7 +66,7 @@ impl Tally {
     }
 
     /// What was found on the core's own answers, and how often.
-    pub fn checked(&self) -> [(String, u64); 12] {
+    pub fn checked(&self) -> [(String, u64); 18] {
         [
             ("cut blocks that opened".into(), self.cut_blocks),
             ("narrowed blocks that opened".into(), self.narrowed_blocks),
@@ -68,6 +80,12 @@ impl Tally {
             ("blocks that are the same narrowed twice".into(), self.narrowed_twice),
             ("narrowings and cuts that changed places".into(), self.changed_places),
             ("narrowings and cuts that were refused both ways".into(), self.refused_both_ways),
+            ("crossings at known places".into(), self.placed_crossings),
+            ("crossings at the first value there".into(), self.crossings),
+            ("segments with every value below".into(), self.uncrossed),
+            ("crossings with other samples behind them".into(), self.changed_behind),
+            ("levels that were raised".into(), self.raised_levels),
+            ("cuts that cross where their points do".into(), self.cut_crossings),
         ]
     }
 

@@ -1,8 +1,9 @@
 //! The document's checked examples and the requests', and the descriptor's table held against its
-//! own words. chains.rs has cuts of cuts, join.rs joins, marks.rs walks and marks, narrow.rs
-//! narrowing, places.rs where things stand.
+//! own words. chains.rs has cuts of cuts, crossing.rs crossings, join.rs joins, marks.rs walks and
+//! marks, narrow.rs narrowing, places.rs where things stand.
 
 mod chains;
+mod crossing;
 mod join;
 mod marks;
 mod narrow;

@@ -18,7 +18,7 @@ pub fn check(checker: &mut Checker, draft: &Draft, random: &mut Random) -> Resul
     let (header, other_header) = (draft.header_len(), other.header_len());
     let other = other.bytes();
     let extent = Extent::of(&block);
-    for call in [extent.c_calls(random), extent.test_calls(random)].concat() {
+    for call in [extent.c_calls(&block, random), extent.test_calls(random)].concat() {
         let asked = request(random, call, &block);
         let first = checker.ask(&asked)?;
         let second = checker.ask(&Request { block: &other, ..asked })?;

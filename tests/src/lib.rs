@@ -1,9 +1,11 @@
 //! An independent implementation of the scope document, and what compares the library's C calls
 //! with it: a generator of blocks and questions, the comparison, and a runner at the end of a pipe.
 
+pub mod calls;
 pub mod cases;
 pub mod chains;
 pub mod compare;
+pub mod crossings;
 pub mod draft;
 pub mod edges;
 pub mod floats;

@@ -4,9 +4,9 @@
 use std::process::ExitCode;
 use std::time::{Duration, Instant};
 
+use tessarquin_tests::calls::LAW;
 use tessarquin_tests::cases;
 use tessarquin_tests::compare::{counts, Checker, Difference};
-use tessarquin_tests::request::LAW;
 use tessarquin_tests::runner::Runner;
 
 const USAGE: &str = "usage: compare [--seed S] [--cases N] [--case K] -- RUNNER [ARGUMENT..]

@@ -1,5 +1,6 @@
 //! What is asked of a block: calls with numbers at and beyond their limits.
 
+use crate::crossings::levels;
 use crate::law::cut::Setup;
 use crate::law::rules::{open, LAST_PLACE};
 use crate::random::Random;
@@ -37,6 +38,12 @@ impl Extent {
 
     pub fn fill(&self, random: &mut Random) -> Call {
         Call::Fill { array: self.array(random), segment: self.segment(random) }
+    }
+
+    /// A level about a value of the segment asked for, or any other.
+    pub fn crossing(&self, block: &[u8], random: &mut Random) -> Call {
+        let (array, segment) = (self.array(random), self.segment(random));
+        Call::Crossing { array, segment, level: levels::of_block(block, array, segment, random) }
     }
 
     pub fn cut(&self, random: &mut Random) -> Call {
@@ -89,8 +96,9 @@ impl Extent {
     }
 
     /// Each C call of a block once.
-    pub fn c_calls(&self, random: &mut Random) -> Vec<Call> {
+    pub fn c_calls(&self, block: &[u8], random: &mut Random) -> Vec<Call> {
         let mut calls = vec![Call::Open, self.point(random), self.fill(random), self.cut(random)];
+        calls.push(self.crossing(block, random));
         calls.extend(place_calls(random));
         calls.push(Call::Narrow);
         calls
@@ -120,6 +128,25 @@ impl Extent {
             2 => self.segments,
             _ => any,
         }
+    }
+
+    /// An array and a segment that are there.
+    pub fn right_segment(&self, random: &mut Random) -> (u32, u32) {
+        let [array, segment] =
+            [self.arrays, self.segments].map(|count| 1 + random.below(count as usize) as u32);
+        (array, segment)
+    }
+
+    /// An array that is not there.
+    pub fn bad_array(&self, random: &mut Random) -> u32 {
+        let next = self.arrays + 1;
+        random.pick(&[0, next, next, 3, 257, 65_537, 1 << 31 | 1, u32::MAX])
+    }
+
+    /// A segment that is not there.
+    pub fn bad_segment(&self, random: &mut Random) -> u32 {
+        let beyond = self.beyond(random, self.segments);
+        random.pick(&[0, beyond, beyond])
     }
 
     /// A point number or FP.

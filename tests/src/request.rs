@@ -2,7 +2,6 @@
 
 use crate::law::cut::Setup;
 use std::fmt;
-use std::panic::{catch_unwind, AssertUnwindSafe};
 
 /// A call and its numbers.
 #[derive(Clone, Copy, Debug)]
@@ -10,6 +9,8 @@ pub enum Call {
     Open,
     Point { array: u32, segment: u32, point: u32 },
     Fill { array: u32, segment: u32 },
+    // The level by its bits, so that every double can be asked for.
+    Crossing { array: u32, segment: u32, level: u64 },
     Cut { setup: Setup, order: u32 },
     // The one cut for cut a, then cut b, which answered `count`; it takes no block.
     Combined { a: Setup, b: Setup, count: u32 },
@@ -38,13 +39,14 @@ pub enum Call {
 
 impl Call {
     /// How many calls there are, by name.
-    pub const NAMES: usize = 16;
+    pub const NAMES: usize = 17;
 
     pub fn name(&self) -> &'static str {
         match self {
             Call::Open => "open",
             Call::Point { .. } => "point",
             Call::Fill { .. } => "fill",
+            Call::Crossing { .. } => "crossing",
             Call::Cut { .. } => "cut",
             Call::Combined { .. } => "combined setup",
             Call::Join => "join",
@@ -103,6 +105,10 @@ impl fmt::Display for Call {
             | Call::Floats { array, segment }
             | Call::WalkedFloats { array, segment }
             | Call::Walk { array, segment } => write!(f, ": array {array}, segment {segment}"),
+            Call::Crossing { array, segment, level } => {
+                let number = f64::from_bits(*level);
+                write!(f, ": array {array}, segment {segment}, level {level:016X} ({number:e})")
+            }
             Call::Cut { setup, order } => write!(f, ": {setup}, order {order}"),
             Call::Combined { a, b, count } => write!(f, ": {a}; then {b}, c {count}"),
             Call::Step { array, segment, k } => {
@@ -177,118 +183,4 @@ impl Reply {
 pub trait Core {
     /// The reply, or in words why there is none.
     fn ask(&mut self, request: &Request) -> Result<Reply, String>;
-}
-
-/// An implementation within this program.
-#[derive(Clone, Copy)]
-#[allow(clippy::type_complexity)] // the calls' own parameters
-pub struct Calls {
-    pub open: fn(&[u8], &mut [u8]) -> u32,
-    pub point: fn(&[u8], u32, u32, u32, &mut [u8]) -> u32,
-    pub fill: fn(&[u8], u32, u32, &mut [u8]) -> u32,
-    pub cut: fn(&[u8], u32, u32, u32, u32, u32, &mut [u8], &mut [u8]) -> u32,
-    pub combined: fn(u32, u32, u32, u32, u32, u32, u32, u32, u32, &mut [u8]) -> u32,
-    pub join: fn(&[u8], &mut [u8], &mut [u8]) -> u32,
-    pub narrow: fn(&[u8], &mut [u8], &mut [u8]) -> u32,
-    pub layout: fn(&[u8], &mut [u8]) -> u32,
-    pub text_place: fn(&[u8], &mut [u8]) -> u32,
-    pub label_place: fn(&[u8], &[u8], &mut [u8]) -> u32,
-    pub floats: fn(&[u8], u32, u32, &mut [f64]) -> u64,
-    pub walked_floats: fn(&[u8], u32, u32, &mut [f64]) -> u64,
-    pub steps: fn(&[u8], u32, u32, &mut [f64], &mut [f64], &mut [u8]) -> u32,
-    pub step: fn(&[u8], u32, u32, u32, &mut [f64], &mut [u8]) -> usize,
-    pub user_text: fn(&[u8], &mut [u8]) -> usize,
-    pub label: fn(&[u8], &[u8], &mut [u8]) -> usize,
-}
-
-/// The calls of a copy of the law.
-#[macro_export]
-macro_rules! calls_of {
-    ($module:path) => {{
-        use $module::{calls, combined, join, narrow, places, tested};
-        $crate::request::Calls {
-            open: calls::open,
-            point: calls::point,
-            fill: calls::fill,
-            cut: calls::cut,
-            combined: combined::combined,
-            join: join::join,
-            narrow: narrow::narrow,
-            layout: places::layout,
-            text_place: places::text_place,
-            label_place: places::label_place,
-            floats: tested::floats,
-            walked_floats: tested::walked_floats,
-            steps: tested::steps,
-            step: tested::step,
-            user_text: tested::user_text,
-            label: tested::label,
-        }
-    }};
-}
-
-/// The independent implementation.
-pub const LAW: Calls = calls_of!(crate::law);
-
-impl Calls {
-    pub fn reply(&self, request: &Request) -> Reply {
-        let (mut out, mut answer) = (request.out.clone(), request.answer.clone());
-        let mut marks = request.marks.clone();
-        let (block, fallback) = (request.block, &request.fallback);
-        let number = match request.call {
-            Call::Open => (self.open)(block, &mut answer).into(),
-            Call::Point { array, segment, point } => {
-                (self.point)(block, array, segment, point, &mut answer).into()
-            }
-            Call::Fill { array, segment } => (self.fill)(block, array, segment, &mut answer).into(),
-            Call::Cut { setup: Setup { sp, np, fp, sn }, order } => {
-                (self.cut)(block, sp, np, fp, sn, order, &mut out, &mut answer).into()
-            }
-            Call::Combined { a, b: Setup { sp, np, fp, sn }, count } => {
-                (self.combined)(a.sp, a.np, a.fp, a.sn, sp, np, fp, sn, count, &mut answer).into()
-            }
-            Call::Join => (self.join)(block, &mut out, &mut answer).into(),
-            Call::Narrow => (self.narrow)(block, &mut out, &mut answer).into(),
-            Call::Layout => (self.layout)(block, &mut answer).into(),
-            Call::TextPlace => (self.text_place)(block, &mut answer).into(),
-            Call::LabelPlace { .. } => (self.label_place)(block, fallback, &mut answer).into(),
-            Call::Floats { array, segment } => {
-                with_floats(&mut answer, |floats| (self.floats)(block, array, segment, floats))
-            }
-            Call::WalkedFloats { array, segment } => with_floats(&mut answer, |floats| {
-                (self.walked_floats)(block, array, segment, floats)
-            }),
-            Call::Walk { array, segment } => with_floats(&mut out, |values| {
-                with_floats(&mut answer, |times| {
-                    (self.steps)(block, array, segment, values, times, &mut marks).into()
-                })
-            }),
-            Call::Step { array, segment, k } => with_floats(&mut answer, |point| {
-                (self.step)(block, array, segment, k, point, &mut marks) as u64
-            }),
-            Call::UserText => (self.user_text)(block, &mut answer) as u64,
-            Call::Label { .. } => (self.label)(block, fallback, &mut answer) as u64,
-        };
-        let (block, fallback) = (block.to_vec(), fallback.clone());
-        Reply { number, block, fallback, out, answer, marks, spoiled: vec![] }
-    }
-}
-
-/// Lends bytes as the floats that they are.
-fn with_floats(bytes: &mut [u8], ask: impl FnOnce(&mut [f64]) -> u64) -> u64 {
-    let float = |bytes: &[u8]| f64::from_le_bytes(bytes.try_into().expect("eight bytes"));
-    let mut floats: Vec<f64> = bytes.chunks(8).map(float).collect();
-    let number = ask(&mut floats);
-    for (place, float) in bytes.chunks_mut(8).zip(floats) {
-        place.copy_from_slice(&float.to_le_bytes());
-    }
-    number
-}
-
-impl Core for Calls {
-    /// A wrong version may index beyond a slice and panic: that is no reply.
-    fn ask(&mut self, request: &Request) -> Result<Reply, String> {
-        catch_unwind(AssertUnwindSafe(|| self.reply(request)))
-            .map_err(|_| "it panicked".to_string())
-    }
 }

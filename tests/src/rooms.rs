@@ -1,10 +1,11 @@
 //! The slices lent to a call: with just enough room, with one byte or one float less, or with more.
 
+use crate::calls::LAW;
 use crate::law::cut::CUT_MORE;
 use crate::law::texts;
 use crate::questions::Extent;
 use crate::random::Random;
-use crate::request::{Call, Reply, Request, LAW};
+use crate::request::{Call, Reply, Request};
 
 /// The fill of a very long segment, its walk and a very long text are asked with too little room,
 /// and take no gigabyte.
@@ -94,7 +95,7 @@ fn need(call: Call, block: &[u8]) -> Room {
         Call::Narrow => need_of_block(call, block, 8, Reply::narrowed),
         Call::Combined { .. } => Room::for_answer(32),
         Call::Layout => Room::for_answer(200),
-        Call::TextPlace => Room::for_answer(16),
+        Call::TextPlace | Call::Crossing { .. } => Room::for_answer(16),
         Call::LabelPlace { .. } => Room::for_answer(24),
         Call::Floats { .. } | Call::WalkedFloats { .. } => Room::for_answer(8 * points()),
         Call::Walk { .. } => {

@@ -147,6 +147,9 @@ impl Core for Runner {
                 (15, vec![a.sp, a.np, a.fp, a.sn, b.sp, b.np, b.fp, b.sn, count])
             }
             Call::Narrow => (16, vec![]),
+            Call::Crossing { array, segment, level } => {
+                (17, vec![array, segment, level as u32, (level >> 32) as u32])
+            }
         };
         let Request { block, fallback, out, answer, marks, .. } = request;
         self.exchange(kind, &numbers, [block, fallback, out, answer, marks])

@@ -4,13 +4,14 @@
 use std::panic;
 use std::process::ExitCode;
 
+use tessarquin_tests::calls::{Calls, LAW};
 use tessarquin_tests::cases;
 use tessarquin_tests::chains;
 use tessarquin_tests::compare::{Checker, Difference};
+use tessarquin_tests::crossings;
 use tessarquin_tests::joins;
 use tessarquin_tests::narrows;
 use tessarquin_tests::random::Random;
-use tessarquin_tests::request::{Calls, LAW};
 
 /// A wrong version.
 struct Version {
@@ -40,7 +41,7 @@ struct Way {
     run: fn(&mut Checker, &mut Random) -> Result<(), Difference>,
 }
 
-const WAYS: [Way; 12] = [
+const WAYS: [Way; 16] = [
     Way {
         flaw: "breaks demand 3",
         caught_how: "caught by demand 3 alone",
@@ -112,6 +113,30 @@ const WAYS: [Way; 12] = [
         caught_how: "caught by narrowing twice alone",
         kind: "narrowed twice",
         run: narrows::narrowed_twice,
+    },
+    Way {
+        flaw: "misses a value",
+        caught_how: "caught by the values of the points they cross at alone",
+        kind: "crossing and values",
+        run: crossings::by_values,
+    },
+    Way {
+        flaw: "looks behind",
+        caught_how: "caught by other samples behind the crossing alone",
+        kind: "crossing and samples behind it",
+        run: crossings::by_samples_behind,
+    },
+    Way {
+        flaw: "falls back",
+        caught_how: "caught by raising the level alone",
+        kind: "crossings of raised levels",
+        run: crossings::by_raised_levels,
+    },
+    Way {
+        flaw: "moves in a cut",
+        caught_how: "caught by cutting about the crossing alone",
+        kind: "crossing and cuts",
+        run: crossings::by_cuts,
     },
 ];
 

@@ -221,7 +221,7 @@ fn beside(random: &mut Random, other: fn(u32) -> u32) -> [u32; 2] {
 #[cfg(test)]
 mod tests {
     use super::*;
-    use crate::request::LAW;
+    use crate::calls::LAW;
     use crate::rooms::exact_request;
 
     /// The expected numbers here are the table's own, not the implementation's.

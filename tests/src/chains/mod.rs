@@ -212,7 +212,7 @@ fn same(chain: &Chain, one: Setup, last: &Reply, at_once: &Reply) -> Result<(), 
 #[cfg(test)]
 mod tests {
     use super::*;
-    use crate::request::LAW;
+    use crate::calls::LAW;
 
     /// Chains of eight cuts, and the one setup of each.
     fn chains_of_eight(count: u64) -> Vec<(Chain, Setup)> {

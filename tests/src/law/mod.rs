@@ -7,6 +7,7 @@
 
 pub mod calls;
 pub mod combined;
+pub mod crossing;
 pub mod cut;
 pub mod descriptor;
 pub mod join;
