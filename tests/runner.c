@@ -2,9 +2,9 @@
  * answers on standard output with the number and with all slices as the call left them. src/runner.rs
  * is the other end.
  *
- * A request is fifteen numbers of four bytes, low byte first: the kind of call, nine numbers for it (0
- * where it takes fewer), and the lengths of block, fallback, out, answer and marks; then the bytes of these
- * five slices. A reply is what the call returned, in eight bytes, and in four which slices have lost the
+ * A request is sixteen numbers of four bytes, low byte first: the kind of call, nine numbers for it (0
+ * where it takes fewer), how many bytes at the end of the block cannot be touched (whole pages, 0 for most
+ * calls), and the lengths of block, fallback, out, answer and marks; then the bytes of these five slices. A reply is what the call returned, in eight bytes, and in four which slices have lost the
  * known bytes before them (bit 0 block, 1 fallback, 2 out, 3 answer, 4 marks); then the bytes of the slices
  * again. Floats are lent, and come back, as the bytes that they have in memory; a level is two of the nine
  * numbers, the low half of its bits and the high half.
@@ -114,10 +114,17 @@ static void put_number(uint8_t *bytes, int width, uint64_t number)
         bytes[i] = (uint8_t)(number >> 8 * i);
 }
 
-/* Tries the slices themselves: changes the byte before one, or touches the byte behind it. */
-static uint64_t probe(const struct slice *slice, int behind)
+/* Lets the last bytes of a slice, whole pages, be touched or not. */
+static void protect(const struct slice *slice, size_t bytes, int how)
 {
-    volatile uint8_t *byte = behind ? slice->end : start(slice) - 1;
+    if (bytes != 0 && mprotect(slice->end - bytes, bytes, how) != 0)
+        fail("mprotect");
+}
+
+/* Tries the slices themselves: changes the byte before one, touches the byte behind it, or changes its last. */
+static uint64_t probe(const struct slice *slice, uint32_t which)
+{
+    volatile uint8_t *byte = which == 0 ? start(slice) - 1 : which == 1 ? slice->end : slice->end - 1;
     *byte ^= 0xFF;
     return 0;
 }
@@ -177,7 +184,7 @@ static uint64_t call(enum kind kind, const uint32_t n[NUMBERS], const struct sli
 
     switch (kind) {
     case PROBE:
-        return probe(&lent[n[0] % SLICES], n[1] != 0);
+        return probe(&lent[n[0] % SLICES], n[1]);
     case OPEN:
         return tessarquin_open(block, block_len, answer, answer_len);
     case POINT:
@@ -209,20 +216,22 @@ int main(void)
 {
     static const struct rlimit none;
     static struct slice lent[SLICES];
-    uint8_t request[(1 + NUMBERS + SLICES) * 4], reply[8 + 4];
+    uint8_t request[(1 + NUMBERS + 1 + SLICES) * 4], reply[8 + 4];
 
     if (setrlimit(RLIMIT_CORE, &none) != 0) /* a signal is an answer: it leaves no file behind */
         fail("setrlimit");
     while (take(request, sizeof request)) {
-        uint32_t n[NUMBERS], lost = 0;
+        uint32_t n[NUMBERS], unread = number(request + 4 * (1 + NUMBERS)), lost = 0;
         for (int i = 0; i < NUMBERS; i++)
             n[i] = number(request + 4 * (1 + i));
         for (int i = 0; i < SLICES; i++) {
-            lend(&lent[i], number(request + 4 * (1 + NUMBERS + i)));
+            lend(&lent[i], number(request + 4 * (1 + NUMBERS + 1 + i)));
             if (lent[i].len != 0 && !take(start(&lent[i]), lent[i].len))
                 fail("input ends within a request");
         }
+        protect(&lent[BLOCK], unread, PROT_NONE);
         put_number(reply, 8, call((enum kind)number(request), n, lent));
+        protect(&lent[BLOCK], unread, PROT_READ | PROT_WRITE);
         for (int i = 0; i < SLICES; i++)
             lost |= (uint32_t)spoiled(&lent[i]) << i;
         put_number(reply + 8, 4, lost);

@@ -39,6 +39,8 @@ pub struct Tally {
     pub refused_both_ways: u64,
     /// Crossings at the places they were made for, or none.
     pub placed_crossings: u64,
+    /// Crossings of blocks that cannot be read to their end.
+    pub unread_crossings: u64,
     /// Crossings at the first value at the level, and segments whose values are all below it.
     pub crossings: u64,
     pub uncrossed: u64,
@@ -66,7 +68,7 @@ impl Tally {
     }
 
     /// What was found on the core's own answers, and how often.
-    pub fn checked(&self) -> [(String, u64); 18] {
+    pub fn checked(&self) -> [(String, u64); 19] {
         [
             ("cut blocks that opened".into(), self.cut_blocks),
             ("narrowed blocks that opened".into(), self.narrowed_blocks),
@@ -81,6 +83,7 @@ impl Tally {
             ("narrowings and cuts that changed places".into(), self.changed_places),
             ("narrowings and cuts that were refused both ways".into(), self.refused_both_ways),
             ("crossings at known places".into(), self.placed_crossings),
+            ("crossings of blocks that were not read to their end".into(), self.unread_crossings),
             ("crossings at the first value there".into(), self.crossings),
             ("segments with every value below".into(), self.uncrossed),
             ("crossings with other samples behind them".into(), self.changed_behind),
@@ -151,9 +154,10 @@ impl<'a> Checker<'a> {
 }
 
 fn describe(request: &Request) -> String {
-    let Request { call, block, out, answer, marks, .. } = request;
+    let Request { call, block, unread, out, answer, marks, .. } = request;
     let (block, out, answer, marks) = (block.len(), out.len(), answer.len(), marks.len());
-    format!("{call}; block of {block}, out of {out}, answer of {answer}, marks of {marks}")
+    let unread = if *unread == 0 { String::new() } else { format!(" ({unread} of it unread)") };
+    format!("{call}; block of {block}{unread}, out of {out}, answer of {answer}, marks of {marks}")
 }
 
 fn differences(call: Call, expected: &Reply, came: &Reply) -> Vec<String> {

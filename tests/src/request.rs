@@ -135,6 +135,9 @@ impl fmt::Display for Setup {
 pub struct Request<'a> {
     pub call: Call,
     pub block: &'a [u8],
+    /// How many bytes at the end of the block cannot be touched: whole pages, and no other call than
+    /// a crossing leaves them alone.
+    pub unread: usize,
     pub fallback: Vec<u8>,
     pub out: Vec<u8>,
     pub answer: Vec<u8>,

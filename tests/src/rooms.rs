@@ -69,7 +69,7 @@ pub fn with_room<'a>(random: &mut Random, call: Call, block: &'a [u8], room: Roo
     };
     let (out, answer) = (lent(room.out), lent(room.answer));
     let marks = random.bytes(room.marks);
-    Request { call, block, fallback, out, answer, marks }
+    Request { call, block, unread: 0, fallback, out, answer, marks }
 }
 
 /// Bytes of floats, none of them a NaN: a contract says that a float is as it was, and the logic has
@@ -118,7 +118,7 @@ fn need_of_block(call: Call, block: &[u8], answer: usize, written: fn(&Reply) ->
 /// A request without a fallback whose outputs hold zeros.
 fn with_zeros(call: Call, block: &[u8], room: Room) -> Request<'_> {
     let [out, answer, marks] = [room.out, room.answer, room.marks].map(|room| vec![0; room]);
-    Request { call, block, fallback: vec![], out, answer, marks }
+    Request { call, block, unread: 0, fallback: vec![], out, answer, marks }
 }
 
 /// So many bytes or floats, or as many as are too few or more.

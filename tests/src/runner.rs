@@ -20,6 +20,13 @@ const SLICES: [&str; 5] = ["block", "fallback", "out", "answer", "marks"];
 /// The kind of call that tries the runner itself, and what the slices hold then.
 const PROBE: u32 = 0;
 const PROBED: Lent = [&[1], &[2], &[3], &[4], &[5]];
+/// Which byte such a call touches: the one before the slice, the one behind it, or its last.
+const BEFORE: u32 = 0;
+const BEHIND: u32 = 1;
+const LAST: u32 = 2;
+
+/// Memory that cannot be touched comes in pages; no machine has larger ones than this.
+pub const PAGE: usize = 65_536;
 
 /// The bytes of the slices, in that order.
 type Lent<'a> = [&'a [u8]; SLICES.len()];
@@ -59,34 +66,61 @@ impl Runner {
     }
 
     /// Tries whether the runner finds what it is there to find: each slice with a byte changed
-    /// before it, and each with the byte behind it touched, which must end the runner.
+    /// before it, and each with the byte behind it touched, which must end the runner; and a block
+    /// with its last byte touched, which must end the runner where that cannot be read.
     pub fn probe(command: &[String]) -> Result<(), String> {
         let mut runner = Runner::start(command)?;
         for (slice, name) in SLICES.iter().enumerate() {
-            let reply = runner.exchange(PROBE, &[slice as u32, 0], PROBED)?;
+            let reply = runner.exchange(PROBE, &[slice as u32, BEFORE], 0, PROBED)?;
             if reply.spoiled != [*name] {
                 return Err(format!("the runner does not see a change before {name}"));
             }
-            let mut victim = Runner::start_with(command, Stdio::null())?;
-            match victim.exchange(PROBE, &[slice as u32, 1], PROBED) {
-                Err(why) if why.contains("signal") => (),
-                Err(why) => return Err(why),
-                Ok(_) => return Err(format!("the byte behind {name} can be touched")),
-            }
+            Runner::ended(command, &[slice as u32, BEHIND], 0, PROBED)?;
         }
-        Ok(())
+        let page = [0; PAGE];
+        let slices = [&page, PROBED[1], PROBED[2], PROBED[3], PROBED[4]];
+        runner.exchange(PROBE, &[0, LAST], 0, slices)?;
+        Runner::ended(command, &[0, LAST], PAGE, slices)
     }
 
-    fn exchange(&mut self, kind: u32, numbers: &[u32], slices: Lent) -> Result<Reply, String> {
+    /// Tries whether touching a byte that cannot be touched ends the runner.
+    fn ended(
+        command: &[String],
+        numbers: &[u32],
+        unread: usize,
+        slices: Lent,
+    ) -> Result<(), String> {
+        let mut victim = Runner::start_with(command, Stdio::null())?;
+        match victim.exchange(PROBE, numbers, unread, slices) {
+            Err(why) if why.contains("signal") => Ok(()),
+            Err(why) => Err(why),
+            Ok(_) => Err(format!("a byte about {} can be touched", SLICES[numbers[0] as usize])),
+        }
+    }
+
+    fn exchange(
+        &mut self,
+        kind: u32,
+        numbers: &[u32],
+        unread: usize,
+        slices: Lent,
+    ) -> Result<Reply, String> {
         self.steps.fetch_add(1, Ordering::SeqCst);
-        let reply = self.write(kind, numbers, slices).and_then(|()| self.read(slices));
+        let reply = self.write(kind, numbers, unread, slices).and_then(|()| self.read(slices));
         self.steps.fetch_add(1, Ordering::SeqCst);
         reply.map_err(|error| self.end(error))
     }
 
-    fn write(&mut self, kind: u32, numbers: &[u32], slices: Lent) -> std::io::Result<()> {
+    fn write(
+        &mut self,
+        kind: u32,
+        numbers: &[u32],
+        unread: usize,
+        slices: Lent,
+    ) -> std::io::Result<()> {
         let mut head = [&[kind], numbers].concat();
         head.resize(1 + NUMBERS, 0);
+        head.push(unread as u32);
         head.extend(slices.map(|slice| slice.len() as u32));
         let mut bytes: Vec<u8> = head.into_iter().flat_map(u32::to_le_bytes).collect();
         slices.iter().for_each(|slice| bytes.extend(*slice));
@@ -151,8 +185,8 @@ impl Core for Runner {
                 (17, vec![array, segment, level as u32, (level >> 32) as u32])
             }
         };
-        let Request { block, fallback, out, answer, marks, .. } = request;
-        self.exchange(kind, &numbers, [block, fallback, out, answer, marks])
+        let Request { block, unread, fallback, out, answer, marks, .. } = request;
+        self.exchange(kind, &numbers, *unread, [block, fallback, out, answer, marks])
     }
 }
 

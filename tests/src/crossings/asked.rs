@@ -4,7 +4,7 @@
 use super::drawn::{self, Known};
 use super::levels;
 use super::scales::Scale;
-use crate::compare::{Checker, Difference};
+use crate::compare::{same, Checker, Difference};
 use crate::draft::Draft;
 use crate::edges;
 use crate::floats;
@@ -14,11 +14,15 @@ use crate::questions::Extent;
 use crate::random::Random;
 use crate::request::Call;
 use crate::rooms::{exact_request, request, with_room, Room};
+use crate::runner::PAGE;
 
 /// How many gains a turn has, how many levels each of them, and how many bad blocks a turn.
 const GAINS: usize = 4;
 const LEVELS: usize = 5;
 const BAD_BLOCKS: usize = 8;
+
+/// Bytes that may be read behind the point: samples may be taken several at once.
+const READ_AHEAD: usize = 4096;
 
 /// Bytes of the answer, and slices that are too short and that are not.
 const ANSWER: usize = 16;
@@ -41,6 +45,20 @@ pub fn places(checker: &mut Checker, known: &Known, random: &mut Random) -> Resu
             checker.tally.placed_crossings += 1;
         }
     }
+    Ok(())
+}
+
+/// Reading ends at the point: the whole pages from a little behind it on cannot be touched.
+pub fn unread(checker: &mut Checker, known: &Known, random: &mut Random) -> Result<(), Difference> {
+    let (block, level) = (known.draft.bytes(), known.level.to_bits());
+    let call = Call::Crossing { array: 1, segment: 1, level };
+    let mut request = exact_request(random, call, &block);
+    let place = known.firsts[0][0].expect("the block was made to cross");
+    let behind = known.draft.array_1.len() - place * known.draft.width;
+    request.unread = behind.saturating_sub(READ_AHEAD) / PAGE * PAGE;
+    let reply = checker.ask(&request)?;
+    same(&format!("{call}: point"), reply.number_at(1), place as u64)?;
+    checker.tally.unread_crossings += 1;
     Ok(())
 }
 

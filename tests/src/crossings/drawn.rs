@@ -106,6 +106,19 @@ pub fn long(random: &mut Random) -> Known {
     known(order, width, &sides, &rows, random)
 }
 
+/// One segment of a few times 65,536 bytes with nothing behind it; the first point at the level is in
+/// the front half.
+pub fn early(random: &mut Random) -> Known {
+    let (order, width) = (any_order(random), 1 + random.below(2));
+    let points = (4 << 16) + random.below(70);
+    let sides = Sides::any(width, random);
+    let place = random.below(points / 2);
+    let rows = vec![vec![sides.first_at(points, place, random)]];
+    let mut early = known(order, width, &sides, &rows, random);
+    early.draft.tail.clear();
+    early
+}
+
 fn known(
     order: Order,
     width: usize,
@@ -191,6 +204,9 @@ mod tests {
         assert_eq!(seen.len(), 4);
         for _ in 0..10 {
             assert!(open(&long(random).draft.bytes()).is_ok());
+            let Known { draft, firsts, .. } = early(random);
+            assert!(open(&draft.bytes()).is_ok() && draft.tail.is_empty());
+            assert!(firsts[0][0].is_some_and(|place| 2 * place < draft.array_1.len() / draft.width));
         }
         for _ in 0..2000 {
             assert!(open(&any(random).bytes()).is_ok());

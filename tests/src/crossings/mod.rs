@@ -15,7 +15,7 @@ use answers::Asked;
 /// How many blocks a turn has that are checked on the core's own answers.
 const BLOCKS: usize = 4;
 
-/// One turn of known places in so many has a long block as well, and the first such turn is not among
+/// One turn of known places in so many has long blocks as well, and the first such turn is not among
 /// the first of all. One block of any kind in so many is long.
 const LONG_EVERY: usize = 16;
 const FIRST_LONG: usize = 3;
@@ -39,13 +39,15 @@ pub fn run(
     }
 }
 
-/// The places of a turn; at some turns a long block too.
+/// The places of a turn; at some turns long blocks too.
 fn places(checker: &mut Checker, turn: usize, random: &mut Random) -> Result<(), Difference> {
     let known = drawn::of_turn(turn, random);
     asked::places(checker, &known, random)?;
     if turn % LONG_EVERY == FIRST_LONG {
         let known = drawn::long(random);
         asked::places(checker, &known, random)?;
+        let known = drawn::early(random);
+        asked::unread(checker, &known, random)?;
     }
     Ok(())
 }
