@@ -75,6 +75,14 @@ static void with_index_twice(int order)
     put(block + (parts - 1) * part_length, order, 140, 4, (7 * (parts - 2) + 3) % parts + 1);
 }
 
+/* All samples 0, and where so many points stand before it, the greatest at one. */
+static void with_flat_samples(size_t width, size_t before)
+{
+    memset(block + samples, 0, points * width);
+    if (before < points)
+        memset(block + samples + before * width, 0x7F, width);
+}
+
 /* ---- the cases */
 
 static uint32_t opened(void) { return tessarquin_open(block, length, answer, sizeof answer); }
@@ -88,6 +96,14 @@ static uint32_t filled(void) { return tessarquin_fill(block, length, 1, 1, out, 
 /* Those that are measured answer a refusal's number above the number of samples at the rail. */
 static uint32_t filled_floats(void) { return (uint32_t)(measured_fill(block, length, 1, 1, values, points) >> 32); }
 static uint32_t walked_floats(void) { return (uint32_t)(measured_walk(block, length, 1, 1, values, points) >> 32); }
+
+/* Above the value of a sample of 0, and below that of the greatest byte. */
+static const double level = 10.0;
+
+/* Where no point of a segment reaches the level, and where one does. */
+static uint32_t crossed(void) { return tessarquin_crossing(block, length, 1, 1, level, answer, sizeof answer); }
+static uint32_t never_crossed(void) { return crossed() || tessarquin_number(answer, TESSARQUIN_CROSSING_FOUND) != 0; }
+static uint32_t once_crossed(void) { return crossed() || tessarquin_number(answer, TESSARQUIN_CROSSING_FOUND) != 1; }
 
 static uint32_t cut_by(uint32_t sp, uint32_t to)
 {
@@ -149,6 +165,9 @@ static uint32_t c_words_high(void) { same_fill_words_high(block + samples, point
 static uint32_t c_float_bytes(void) { same_values_bytes(block + samples, points, gain, offset, values); return 0; }
 static uint32_t c_float_words_low(void) { same_values_words_low(block + samples, points, gain, offset, values); return 0; }
 static uint32_t c_float_words_high(void) { same_values_words_high(block + samples, points, gain, offset, values); return 0; }
+static uint32_t c_crossed_bytes(void) { return same_crossing_bytes(block + samples, points, gain, offset, level) != points; }
+static uint32_t c_crossed_words_low(void) { return same_crossing_words_low(block + samples, points, gain, offset, level) != points; }
+static uint32_t c_crossed_words_high(void) { return same_crossing_words_high(block + samples, points, gain, offset, level) != points; }
 static uint32_t c_walked(void)
 {
     struct same_place place = {samples, 0, (uint32_t)points, 1, 1, 0, 1, gain, offset, 0.25f, -1};
@@ -198,6 +217,11 @@ static const struct work {
     {"floats-word-high", 0, 2, 0, filled_floats, c_float_words_high},
     {"floats-byte", 1, 1, 0, filled_floats, c_float_bytes},
     {"walk-word-low", 1, 2, 0, walked_floats, c_walked},
+    {"crossing-word-low", 1, 2, 0, never_crossed, c_crossed_words_low},
+    {"crossing-word-high", 0, 2, 0, never_crossed, c_crossed_words_high},
+    {"crossing-byte", 1, 1, 0, never_crossed, c_crossed_bytes},
+    {"crossing-near-low", 1, 2, 0, once_crossed, NULL},
+    {"crossing-near-high", 0, 2, 0, once_crossed, NULL},
     {"cut-copy-word", 1, 2, 0, copied, c_copied},
     {"cut-copy-byte", 1, 1, 0, copied, c_copied},
     {"cut-turn", 1, 2, 0, turned, c_turned},
@@ -234,6 +258,8 @@ static uint32_t (*prepare(const char *who, const char *name, size_t n))(void)
         make(w->order, w->width, w->in_each ? n : 1, w->in_each ? w->in_each : n, w->in_each != 0);
     if (strncmp(name, "join-twice", 10) == 0)
         with_index_twice(w->order);
+    if (strncmp(name, "crossing-", 9) == 0)
+        with_flat_samples(w->width, strncmp(name, "crossing-near", 13) == 0 ? 10 : points);
     if (strcmp(name, "open-six") == 0)
         with_six_digits();
     if (strcmp(name, "label-full") == 0)
@@ -309,6 +335,7 @@ static void print_stacks(void)
     points = 200;
     printf("tessarquin_point %zu\n", touched(one_point) - none);
     printf("tessarquin_fill %zu\n", touched(filled) - none);
+    printf("tessarquin_crossing %zu\n", touched(crossed) - none);
     printf("tessarquin_cut %zu\n", touched(by_4) - none);
     printf("tessarquin_combined %zu\n", touched(combined) - none);
     printf("tessarquin_narrow %zu\n", touched(narrowed) - none);

@@ -101,6 +101,30 @@ uint32_t same_values_words_high(const uint8_t *restrict samples, size_t n, float
     return marks;
 }
 
+size_t same_crossing_bytes(const uint8_t *samples, size_t n, float gain, float offset, double level)
+{
+    size_t k = 0;
+    while (k < n && !((double)gain * (int8_t)samples[k] - (double)offset >= level))
+        k++;
+    return k;
+}
+
+size_t same_crossing_words_low(const uint8_t *samples, size_t n, float gain, float offset, double level)
+{
+    size_t k = 0;
+    while (k < n && !((double)gain * (int16_t)word(samples + 2 * k) - (double)offset >= level))
+        k++;
+    return k;
+}
+
+size_t same_crossing_words_high(const uint8_t *samples, size_t n, float gain, float offset, double level)
+{
+    size_t k = 0;
+    while (k < n && !((double)gain * (int16_t)__builtin_bswap16(word(samples + 2 * k)) - (double)offset >= level))
+        k++;
+    return k;
+}
+
 void same_keep(const uint8_t *restrict samples, size_t n, size_t step, uint8_t *restrict out)
 {
     for (size_t k = 0; k < n; k += step, out += 2)

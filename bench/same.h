@@ -12,6 +12,11 @@ uint32_t same_values_bytes(const uint8_t *samples, size_t n, float gain, float o
 uint32_t same_values_words_low(const uint8_t *samples, size_t n, float gain, float offset, double *out);
 uint32_t same_values_words_high(const uint8_t *samples, size_t n, float gain, float offset, double *out);
 
+/* The first of n samples whose value is at or above a level, or n: value by value. */
+size_t same_crossing_bytes(const uint8_t *samples, size_t n, float gain, float offset, double level);
+size_t same_crossing_words_low(const uint8_t *samples, size_t n, float gain, float offset, double level);
+size_t same_crossing_words_high(const uint8_t *samples, size_t n, float gain, float offset, double level);
+
 /* Every step-th of n words, as it is or with its two bytes changed over; and n bytes as they are. */
 void same_keep(const uint8_t *samples, size_t n, size_t step, uint8_t *out);
 void same_turn(const uint8_t *samples, size_t n, size_t step, uint8_t *out);

@@ -9,12 +9,12 @@ use native.Mathlib.Omega.{arith}
 use lib.ListN.{getD, take, drop, length-take}
 use lib.IntN.{ℤ}
 use lib.Signed.{mag}
-use lib.Ieee.{Float}
+use lib.Ieee.{Float, le}
 use lib.Ieee.Scale.{finite}
 use contract.Lifetimes.{Lfts}
 use denote.Ref.{RefT, at-last as holding}
 use Rattle.rules.specs.Numbers.{Bytes, number}
-use Rattle.rules.specs.Wave.{Wave, points}
+use Rattle.rules.specs.Wave.{points}
 use Rattle.rules.specs.Rules.{first, refusal, opened}
 use Rattle.rules.specs.Cut.{orElse}
 use Rattle.rules.specs.Points.{valueOf, value, pointRefusal}
@@ -30,8 +30,8 @@ use Rattle.points.specs.Steps.{samplesBy, segmentRulesBy, Lent}
 use Rattle.points.proofs.Refusals.{walk-none, walk-block, walk-segment}
 use Rattle.points.proofs.Values.{kind-small, value-is}
 use Rattle.points.proofs.Fillings.{each}
-use Rattle.levels.specs.Levels.{reaches, between}
-use Rattle.crossings.specs.Crossings.{firstFrom, crossing, crossingRefusal}
+use Rattle.levels.specs.Levels.{between}
+use Rattle.crossings.specs.Crossings.{reaches, firstFrom, crossing, crossingRefusal}
 use Rattle.crossings.specs.declared.Crossing.{Crossing}
 use Rattle.crossings.specs.declared.Crossing.the-variants.{At, Nowhere, Refused}
 use Rattle.crossings.specs.Answers.{crossingBy, crossingAs, First}
@@ -48,15 +48,16 @@ fits-there o kind from k s b h =
     (number-below o (kind + 1) (take (kind + 1) bs) (below-take 256 (kind + 1) bs (below-drop 256 (from + k * (kind + 1)) s b)) (omega (arith, length-take (kind + 1) bs)))
 
 module _ (s : List ℕ) (b : Bytes s) (o : Opened) (a n : ℕ) (l : Lent s o a n 0) (level : Float) where
-  pub first-is : (low high : ℤ) → ((z : ℤ) → mag z < 2 ^ 15 → reaches level (valueOf (o .calibration .gain) (o .calibration .offset) z) ≡ between low high z)
+  pub first-is : (low high : ℤ) → ((z : ℤ) → mag z < 2 ^ 15 → le level (valueOf (o .calibration .gain) (o .calibration .offset) z) ≡ between low high z)
       → (from k : ℕ) → from ≡ samplesBy o a n → First (λ j. between low high (sampleAt (o .order) (o .kind + 1) s from j)) (o .points) k → First (λ j. reaches level (value (opened s) a n j)) (o .points) k
+  unfolding reaches
   first-is low high h from k e f = agreeing (λ j. between low high (sampleAt (o .order) (o .kind + 1) s from j)) (λ j. reaches level (value (opened s) a n j)) (o .points) k same f
     where
       same : (j : ℕ) → j < o .points → between low high (sampleAt (o .order) (o .kind + 1) s from j) ≡ reaches level (value (opened s) a n j)
       same j i =
           ap (λ (x : ℕ). between low high (sampleAt (o .order) (o .kind + 1) s x j)) e
           ∙ sym (h (sampleAt (o .order) (o .kind + 1) s (samplesBy o a n) j) (fits-there (o .order) (o .kind) (samplesBy o a n) j s b (kind-small s b o a n 0 l)))
-          ∙ ap (reaches level) (unfold valueAt in value-is s b o a n j (each s b o a n l j i))
+          ∙ ap (le level) (unfold valueAt in value-is s b o a n j (each s b o a n l j i))
 
 -- ---- refused calls
 
@@ -112,8 +113,8 @@ pub first-determined : (s : List ℕ) (a n : ℕ) (level : Float) (x y : Crossin
 first-determined s a n level x y p q = p .2 ∙ sym (q .2)
 
 -- the same payload under two accepted headers: the same answer
-same-number : (s t : List ℕ) → SameAnswers s t → (a n : ℕ) (level : Float) → crossingRefusal t a n level ≡ crossingRefusal s a n level
-same-number s t e a n level = go (finite level) refl
+pub same-refusal : (s t : List ℕ) → SameAnswers s t → (a n : ℕ) (level : Float) → crossingRefusal t a n level ≡ crossingRefusal s a n level
+same-refusal s t e a n level = go (finite level) refl
   where
     go : (b : Bool) → finite level ≡ b → crossingRefusal t a n level ≡ crossingRefusal s a n level
     go true f = crossing-as-walk t a n level f ∙ e .same-walk a n ∙ sym (crossing-as-walk s a n level f)
@@ -121,7 +122,7 @@ same-number s t e a n level = go (finite level) refl
 
 pub same-crossing : (s t : List ℕ) → SameAnswers s t → (a n : ℕ) (level : Float) → crossingAs t a n level ≡ crossingAs s a n level
 unfolding crossingAs
-same-crossing s t e a n level = λ i. crossingBy (same-number s t e a n level i) (crossing (e .same-wave i) a n level)
+same-crossing s t e a n level = λ i. crossingBy (same-refusal s t e a n level i) (crossing (e .same-wave i) a n level)
 
 pub first-same : (s t : List ℕ) → SameAnswers s t → (a n : ℕ) (level : Float) (x y : Crossing) → FirstCall s a n level x → FirstCall t a n level y → y ≡ x
 first-same s t e a n level x y p q = q .2 ∙ same-crossing s t e a n level ∙ sym (p .2)

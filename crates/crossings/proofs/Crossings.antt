@@ -15,11 +15,11 @@ use borrow.Author.Tests.{ltb-true, ltb-false}
 use Rattle.rules.specs.Wave.{Wave, points}
 use Rattle.rules.specs.Rules.{first, rules, inner, refusal, opened}
 use Rattle.rules.specs.Cut.{orElse}
-use Rattle.rules.specs.Points.{sample, valueOf, value, chosen, inside, segmentRules, walkRefusal}
+use Rattle.rules.specs.Points.{sample, valueOf, value, chosen, inside, segmentRules, walkRefusal, pointRefusal}
 use Rattle.rules.proofs.Tests.{first-append}
 use Rattle.rules.proofs.Opened.{rules-numbered}
-use Rattle.levels.specs.Levels.{reaches}
-use Rattle.crossings.specs.Crossings.{crossing, crossingRules, crossingRefusal}
+use Rattle.points.proofs.Refusals.{walk-points}
+use Rattle.crossings.specs.Crossings.{reaches, crossing, crossingRules, crossingRefusal}
 use Rattle.crossings.specs.Answers.{First}
 use Rattle.crossings.proofs.Firsts.{found-at, found-none, at-found, none-found}
 
@@ -35,17 +35,21 @@ module _ (w : Wave) (a n : ℕ) (level : Float) where
   abbrev reached : ℕ → Bool
   reached k = reaches level (value w a n k)
 
+  -- no point before it is there
+  pub not-yet : (k : ℕ) → Crosses w a n level k → (j : ℕ) → j < k → reaches level (value w a n j) ≡ false
+  not-yet k c j l = go (reached j) refl
+    where
+      go : (b : Bool) → reached j ≡ b → reached j ≡ false
+      go true e = absurd (omega (arith, c .least j (omega (arith, c .inside)) e))
+      go false e = e
+
   pub crossing-at : (k : ℕ) → (crossing w a n level ≡ some k) ↔ Crosses w a n level k
   unfolding crossing
-  crossing-at k = ((λ e. let f = at-found reached (points (w .head)) k e in record { inside = f .1; above = f .0 .passes (f .1); least = λ j l h. up j h (f .0) (ltb j k) refl }), (λ c. found-at reached (points (w .head)) k (record { within = omega (arith, c .inside); passes = λ h. c .above; fails = λ j h. not-yet c j h (reached j) refl }) (c .inside)))
+  crossing-at k = ((λ e. let f = at-found reached (points (w .head)) k e in record { inside = f .1; above = f .0 .passes (f .1); least = λ j l h. up j h (f .0) (ltb j k) refl }), (λ c. found-at reached (points (w .head)) k (record { within = omega (arith, c .inside); passes = λ h. c .above; fails = not-yet k c }) (c .inside)))
     where
       up : (j : ℕ) → reached j ≡ true → First reached (points (w .head)) k → (b : Bool) → ltb j k ≡ b → k ≤ j
       up j h f true e = absurd (false≢true (sym (f .fails j (ltb-true j k e)) ∙ h))
       up j h f false e = ltb-false j k e
-
-      not-yet : Crosses w a n level k → (j : ℕ) → j < k → (b : Bool) → reached j ≡ b → reached j ≡ false
-      not-yet c j l true e = absurd (omega (arith, c .least j (omega (arith, c .inside)) e))
-      not-yet c j l false e = e
 
   pub crossing-none : (crossing w a n level ≡ none) ↔ ((k : ℕ) → k < points (w .head) → reaches level (value w a n k) ≡ false)
   unfolding crossing
@@ -95,3 +99,7 @@ module _ (s : List ℕ) (a n : ℕ) (level : Float) where
       go : (b : Bool) → finite level ≡ b → finite level ≡ true
       go true q = q
       go false q = absurd (nine (refusal s) (sym (crossing-level q) ∙ e))
+
+  -- and each point of its segment is answered
+  pub asked : crossingRefusal s a n level ≡ 0 → (j : ℕ) → j < points (opened s .head) → pointRefusal s a n j ≡ 0
+  asked z = walk-points s a n (sym (crossing-as-walk (level-finite z)) ∙ z)

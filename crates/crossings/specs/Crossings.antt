@@ -3,12 +3,15 @@ use Prim.Native.Nat.{ℕ, zero, suc}
 use mathlib.Core.Bool.{Bool, cond}
 use mathlib.Core.List.{List, [], _∷_, _++_}
 use mathlib.Core.Option.{Option, none, some}
-use lib.Ieee.{Float}
+use lib.Ieee.{Float, le}
 use lib.Ieee.Scale.{finite}
 use Rattle.rules.specs.Wave.{Wave, points}
 use Rattle.rules.specs.Rules.{first, rules, opened}
 use Rattle.rules.specs.Points.{value, chosen, inside}
-use Rattle.levels.specs.Levels.{reaches}
+
+-- a value is at or above the level: IEEE's comparison, by which −0 is at 0
+unfoldable pub reaches : Float → Float → Bool
+reaches level v = le level v
 
 -- the first of the n numbers from i on that passes a test, or none
 unfoldable pub firstFrom : (ℕ → Bool) → ℕ → ℕ → Option ℕ

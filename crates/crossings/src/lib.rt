@@ -8,7 +8,7 @@ ghost use lib.Ieee.Scale.{finite};
 ghost use Rattle.rules.specs.Rules.{opened};
 ghost use Rattle.rules.specs.Points.{value};
 ghost use Rattle.points.specs.Steps.{Lent};
-ghost use Rattle.levels.specs.Levels.{reaches};
+ghost use Rattle.crossings.specs.Crossings.{reaches};
 ghost use Rattle.crossings.specs.Answers.{crossingAs, toldBy, First};
 
 // The first point at or above a level, or that there is none, or the number of the refusal.

@@ -7,3 +7,5 @@ pub mod Chains
 pub mod HostChains
 pub mod Narrowings
 pub mod HostNarrowings
+pub mod Crossings
+pub mod HostCrossings

@@ -95,6 +95,28 @@ pub fn counts(name: &[u8], samples: &[u8], kind: u16, order: u16)
     print_in(order, f.marks, name);
 }
 
+// Asks where a segment first crosses a level.
+pub fn crosses(name: &[u8], shape: u32, array: u32, segment: u32, level: f64) {
+    let mut block = [0u8; 512];
+    blocks::make(shape, &mut block);
+    let slice = 11 + blocks::payload(shape) as usize;
+    let t = crossings::tell(crossings::first(first(&block, slice), array, segment, level));
+    print(t.refusal, name);
+}
+
+// Asks for the first point at or above a level, of a block with these words and this gain: its number, or 99.
+pub fn finds(name: &[u8], samples: &[u8; 8], order: u16, gain: u32, level: f64) {
+    let mut block = [0u8; 512];
+    blocks::make_of(samples, 1, order, &mut block);
+    blocks::put_gain(gain, order, &mut block);
+    let t = crossings::tell(crossings::first(first(&block, 365), 1, 1, level));
+    if t.found == 0 {
+        print_in(order, 99, name);
+    } else {
+        print_in(order, t.point, name);
+    }
+}
+
 // Narrows a block with these samples and this gain to so many bytes.
 pub fn narrows(name: &[u8], samples: &[u8], kind: u16, order: u16, gain: u32, room: usize)
     requires { ⌜ length (now samples) ≤ 12 ⌝ }

@@ -1,13 +1,13 @@
 -- In the order of ranks no value is less than the one before it (`value-rises`): each is its exact value, rounded once. So where a sample reaches a level, those
 -- of higher rank do (`reaches-rises`). And the gain's sign, as a comparison with 0 tells it (`direction`).
 use mathlib.Core.Path.{_≡_, refl, sym, ap, _∙_, subst}
-use Prim.Native.Nat.{ℕ, zero, _+_, _-_, _*_, _/_, _^_, _≤_, _<_}
+use Prim.Native.Nat.{ℕ, _+_, _-_, _*_, _/_, _^_, _≤_, _<_}
 use native.Mathlib.Nat.{le-trans, add-sub-of-le, mul-one, zero-mul, zero-div}
 use native.Mathlib.Omega.{arith}
-use mathlib.Core.Bool.{Bool, true, false, false≢true}
+use mathlib.Core.Bool.{Bool, true, false}
 use lib.Dec.{T, ltb, lit≤}
 use lib.IntN.{ℤ, pos, natAbs, _+ℤ_, _-ℤ_, _*ℤ_}
-use lib.Signed.{mag, natAbs-le}
+use lib.Signed.{natAbs-le}
 use lib.Ieee.{Float, nan, inf, fin, binary32, up, down, unlike, ofBits, ofFields, odd, lt, le, fits}
 use lib.Ieee.Scale.{finite}
 use borrow.Author.Tests.{ltb-true, ltb-false}
@@ -17,7 +17,7 @@ use Rattle.rules.proofs.Products.{times-sum, add-part}
 use Rattle.rules.proofs.Near.{Rounds, value-near, value-rounds}
 use Rattle.rules.proofs.Rounds.{rounds-order}
 use Rattle.scale.proofs.Finite.{whole-finite}
-use Rattle.levels.specs.Levels.{reaches, ranked, Rises}
+use Rattle.levels.specs.Levels.{ranked, Rises}
 use Rattle.levels.proofs.Order.{le-through}
 use Rattle.levels.proofs.Ranks.{rank-fits, rank-step}
 
@@ -88,7 +88,6 @@ module _ (gain offset : Float) (p : T (fits binary32 gain)) (q : T (fits binary3
   value-finite j l = whole-finite 149 (valueOf gain offset (ranked f j)) (value-near gain offset (ranked f j) p q h k (small j l) .is-whole)
 
   -- where a sample reaches the level, those of higher rank do
-  pub reaches-rises : (level : Float) → T (finite level) → Rises (λ j. reaches level (valueOf gain offset (ranked f j))) 65536
-  unfolding reaches
+  pub reaches-rises : (level : Float) → T (finite level) → Rises (λ j. le level (valueOf gain offset (ranked f j))) 65536
   reaches-rises level r i j l m t =
       le-through level (valueOf gain offset (ranked f i)) (valueOf gain offset (ranked f j)) r (value-finite i (omega arith)) (value-finite j m) t (value-rises i j l m)

@@ -1,15 +1,10 @@
--- A level, and the samples whose values reach it. Definitions only.
+-- The samples whose values reach a level, as bounds. Definitions only.
 use mathlib.Core.Path.{_≡_}
 use Prim.Native.Nat.{ℕ, _-_, _≤_, _<_}
 use mathlib.Core.Bool.{Bool, cond, _&&_}
 use lib.Dec.{T, leb}
 use lib.IntN.{ℤ, pos, _-ℤ_}
 use lib.Signed.{leZ}
-use lib.Ieee.{Float, le}
-
--- a value is at or above the level: IEEE's comparison, by which −0 is at 0
-unfoldable pub reaches : Float → Float → Bool
-reaches level v = le level v
 
 -- a sample stands from low to high
 unfoldable pub between : ℤ → ℤ → ℤ → Bool

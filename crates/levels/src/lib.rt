@@ -2,14 +2,15 @@
 // values reach the level are all those between two numbers.
 use scale::Calibration;
 ghost use mathlib.Core.Path.{_≡_};
-ghost use Prim.Native.Nat.{ℕ, _^_, _<_};
+ghost use Prim.Native.Nat.{_^_, _<_};
 ghost use lib.Dec.{T};
 ghost use lib.IntN.{ℤ};
 ghost use lib.Signed.{mag};
+ghost use lib.Ieee.{le};
 ghost use lib.Ieee.Scale.{finite};
 ghost use Rattle.rules.specs.Points.{valueOf};
 ghost use Rattle.scale.specs.Scale.{FiniteValue};
-ghost use Rattle.levels.specs.Levels.{reaches, between, raised, ranked, Rises, Edge};
+ghost use Rattle.levels.specs.Levels.{between, raised, ranked, Rises, Edge};
 
 // The lowest and the highest sample whose value reaches a level. Where none does, the lowest is above the highest.
 pub struct Bounds {
@@ -21,7 +22,7 @@ pub struct Bounds {
 pub fn bounds_of(c: Calibration, level: f64) -> Bounds
     requires { ⌜ FiniteValue c ⌝ }
     requires { ⌜ T (finite level) ⌝ }
-    ensures { λ r. ⌜ ((z : ℤ) → mag z < 2 ^ 15 → reaches level (valueOf (c .gain) (c .offset) z) ≡ between (r .low) (r .high) z) ⌝ }
+    ensures { λ r. ⌜ ((z : ℤ) → mag z < 2 ^ 15 → le level (valueOf (c .gain) (c .offset) z) ≡ between (r .low) (r .high) z) ⌝ }
 {
     let falling = c.gain < 0.0;
     let k = edge(c, level, falling);
@@ -47,8 +48,8 @@ pub fn bounds_of(c: Calibration, level: f64) -> Bounds
 // The rank from which on samples reach the level, or 65,536 where none does. It is found by halves, so at most 17 values are tried.
 fn edge(c: Calibration, level: f64, falling: bool) -> u32
     requires { ⌜ FiniteValue c ⌝ }
-    requires { ⌜ Rises (λ j. reaches level (valueOf (c .gain) (c .offset) (ranked falling j))) 65536 ⌝ }
-    ensures { λ r. ⌜ Edge (λ j. reaches level (valueOf (c .gain) (c .offset) (ranked falling j))) 65536 r ⌝ }
+    requires { ⌜ Rises (λ j. le level (valueOf (c .gain) (c .offset) (ranked falling j))) 65536 ⌝ }
+    ensures { λ r. ⌜ Edge (λ j. le level (valueOf (c .gain) (c .offset) (ranked falling j))) 65536 r ⌝ }
 {
     let mut low = 0;
     let mut high = 65536;

@@ -8,7 +8,7 @@ use mir.Syntax.{w16}
 use mir.ValLaws.{toZ-ofZ}
 use borrow.Author.Needs.{needs}
 use Rattle.rules.specs.Points.{valueOf}
-use Rattle.levels.specs.Levels.{reaches, ranked}
+use Rattle.levels.specs.Levels.{ranked}
 use Rattle.levels.proofs.Halves.{from-there, up-to-there, edge-met}
 use Rattle.levels.proofs.edge.Statement.{statement}
 use Rattle.levels.proofs.edge.Tie as tie
@@ -16,8 +16,8 @@ use Rattle.levels.proofs.edge.Tie as tie
 abbrev Inv-loop : tie.InvT-loop
 Inv-loop c level falling low₀ high₀ low high =
     (low ≤ high) × (high ≤ 65536)
-    × ((j : ℕ) → j < low → reaches level (valueOf (c .gain) (c .offset) (ranked falling j)) ≡ false)
-    × ((j : ℕ) → high ≤ j → j < 65536 → reaches level (valueOf (c .gain) (c .offset) (ranked falling j)) ≡ true)
+    × ((j : ℕ) → j < low → le level (valueOf (c .gain) (c .offset) (ranked falling j)) ≡ false)
+    × ((j : ℕ) → high ≤ j → j < 65536 → le level (valueOf (c .gain) (c .offset) (ranked falling j)) ≡ true)
 
 abbrev μ-loop : tie.MeasureT-loop
 μ-loop c level falling low₀ high₀ low high = high - low
@@ -37,8 +37,7 @@ value-requires c κs = search needs
 -- what the comparison says of the rank in the middle
 tried : (c : tie.After-value Inv-loop μ-loop)
     → (let a = c .before .before .before .before .args in
-    let l = c .before .before .before .loop in reaches (a .level) (valueOf (a .c .gain) (a .c .offset) (ranked (a .falling) ((l .low + l .high) / 2))) ≡ le (a .level) (c .value .result))
-unfolding reaches
+    let l = c .before .before .before .loop in le (a .level) (valueOf (a .c .gain) (a .c .offset) (ranked (a .falling) ((l .low + l .high) / 2))) ≡ le (a .level) (c .value .result))
 tried c =
     let a = c .before .before .before .before .args in
     let r = c .before .ranked in
@@ -51,7 +50,7 @@ loop-again : tie.Need-loop-again Inv-loop μ-loop
 loop-again c =
     let s = c .before .before .before .before .before in
     let l = c .before .before .before .before .loop in
-    let p : ℕ → Bool = λ j. reaches (s .args .level) (valueOf (s .args .c .gain) (s .args .c .offset) (ranked (s .args .falling) j)) in
+    let p : ℕ → Bool = λ j. le (s .args .level) (valueOf (s .args .c .gain) (s .args .c .offset) (ranked (s .args .falling) j)) in
     (omega (arith, l .inv .0), omega (arith, l .inv .1), l .inv .2, λ j h m. from-there p 65536 (s .pre .1) _ j (tried (c .before) ∙ c .if1 .taken) h m)
 
 add-low : tie.Need-add-low Inv-loop μ-loop
@@ -64,14 +63,14 @@ loop-again-2 : tie.Need-loop-again-2 Inv-loop μ-loop
 loop-again-2 c =
     let s = c .before .before .before .before .before in
     let l = c .before .before .before .before .loop in
-    let p : ℕ → Bool = λ j. reaches (s .args .level) (valueOf (s .args .c .gain) (s .args .c .offset) (ranked (s .args .falling) j)) in
+    let p : ℕ → Bool = λ j. le (s .args .level) (valueOf (s .args .c .gain) (s .args .c .offset) (ranked (s .args .falling) j)) in
     (omega (arith, l .inv .0), l .inv .1, (λ j h. up-to-there p 65536 (s .pre .1) _ j (tried (c .before) ∙ c .if1 .left) (omega arith) (omega (arith, l .inv .1))), l .inv .3)
 
 returns : tie.Need-returns Inv-loop μ-loop
 returns c =
     let a = c .before .before .args in
     let l = c .before .loop in
-    edge-met (λ (j : ℕ). reaches (a .level) (valueOf (a .c .gain) (a .c .offset) (ranked (a .falling) j))) 65536 (l .low) (l .high) (l .inv .0) (omega arith) (l .inv .1) (l .inv .2) (l .inv .3)
+    edge-met (λ (j : ℕ). le (a .level) (valueOf (a .c .gain) (a .c .offset) (ranked (a .falling) j))) 65536 (l .low) (l .high) (l .inv .0) (omega arith) (l .inv .1) (l .inv .2) (l .inv .3)
 
 pub edge-spec : {M : Type 1} → statement M
 edge-spec =

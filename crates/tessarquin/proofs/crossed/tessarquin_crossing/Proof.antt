@@ -1,7 +1,5 @@
 -- Refused as the crossing is, without room, or answered by its two numbers.
 use mathlib.Core.Path.{_≡_, sym, ap, _∙_}
-use mathlib.Core.List.{List}
-use Prim.Native.Nat.{ℕ}
 use native.Mathlib.Omega.{arith}
 use Rattle.rules.specs.Numbers.{splice}
 use Rattle.crossings.specs.Crossings.{crossingRefusal}
