@@ -294,7 +294,7 @@ enum tessarquin_crossing_number {
  * whatever the signal did: the samples of one that went beyond have the mark. host/cross.c tells of both.
  *
  * No sample behind the point answered counts, and the samples are not read to the end of the segment: where a record of
- * millions of points crosses near its start, the call costs little more than tessarquin_open. Of a block with very many
+ * millions of points crosses near its start, the call takes twice as long as tessarquin_open. Of a block with very many
  * segments each call judges the trigger times of all, as said at tessarquin_point.
  *
  * For the time of the first overvoltage of a 400 V bus, in segment 1 of array 1:

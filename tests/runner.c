@@ -4,10 +4,11 @@
  *
  * A request is sixteen numbers of four bytes, low byte first: the kind of call, nine numbers for it (0
  * where it takes fewer), how many bytes at the end of the block cannot be touched (whole pages, 0 for most
- * calls), and the lengths of block, fallback, out, answer and marks; then the bytes of these five slices. A reply is what the call returned, in eight bytes, and in four which slices have lost the
- * known bytes before them (bit 0 block, 1 fallback, 2 out, 3 answer, 4 marks); then the bytes of the slices
- * again. Floats are lent, and come back, as the bytes that they have in memory; a level is two of the nine
- * numbers, the low half of its bits and the high half.
+ * calls), and the lengths of block, fallback, out, answer and marks; then the bytes of these five slices. A
+ * reply is what the call returned, in eight bytes, and in four which slices have lost the known bytes before
+ * them (bit 0 block, 1 fallback, 2 out, 3 answer, 4 marks); then the bytes of the slices again. Floats are
+ * lent, and come back, as the bytes that they have in memory; a level is two of the nine numbers, the low
+ * half of its bits and the high half.
  *
  * Every slice ends where memory that cannot be touched begins, so a call that reads or writes
  * behind a slice ends this program by a signal. */

@@ -2,6 +2,7 @@
  * Tests of the crossing, in slices as calls.c has them: the point answered is held to a plain search, as search.h has it.
  * Prints one line and ends with 0, or prints what differed and ends with 1.
  */
+#include "damage.h"
 #include "search.h"
 
 #include <math.h>
@@ -226,16 +227,10 @@ static void refuses(struct slice block, uint32_t refusal, const char *what)
 static void test_refusals(int order, uint32_t type)
 {
     now = "blocks that are refused";
-    static const struct { size_t at, width; uint64_t n; uint32_t refusal; } damage[] = {
-        {0, 1, 'w', TESSARQUIN_NAME}, {26, 1, '0', TESSARQUIN_NAME}, {34, 1, 2, TESSARQUIN_FORM}, {32, 2, 2, TESSARQUIN_FORM},
-        {36, 4, 345, TESSARQUIN_TILE}, {40, 4, 4, TESSARQUIN_TILE}, {116, 4, 7, TESSARQUIN_COUNT}, {140, 4, 1, TESSARQUIN_COUNT},
-        {132, 4, 0x80000000, TESSARQUIN_INDEX}, {136, 4, 268435456, TESSARQUIN_INDEX}, {156, 4, 0x7F800000, TESSARQUIN_FLOAT},
-        {156, 4, 0xFFC00000, TESSARQUIN_FLOAT}, {160, 4, 0xFF800000, TESSARQUIN_FLOAT}, {180, 8, 0x7FF0000000000000, TESSARQUIN_FLOAT},
-        {DESCRIPTOR_BYTES + 24, 8, 0x7FF8000000000000, TESSARQUIN_FLOAT}, {DESCRIPTOR_BYTES + 16, 8, 0x3FF0000000000000, TESSARQUIN_TIME}};
-    for (size_t i = 0; i < sizeof damage / sizeof *damage; i++) {
+    for (size_t i = 0; i < DAMAGES; i++) {
         struct slice b = make(order, type, 2, 3, 1);
-        put(b.bytes, order, damage[i].at, damage[i].width, damage[i].n);
-        refuses(b, damage[i].refusal, "another number");
+        put(b.bytes, order, damages[i].at, damages[i].width, damages[i].n);
+        refuses(b, damages[i].refusal, "another number");
         unmap(b);
     }
     struct slice whole = make(order, type, 2, 3, 1);

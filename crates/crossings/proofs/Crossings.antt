@@ -19,7 +19,7 @@ use Rattle.rules.specs.Points.{sample, valueOf, value, chosen, inside, segmentR
 use Rattle.rules.proofs.Tests.{first-append}
 use Rattle.rules.proofs.Opened.{rules-numbered}
 use Rattle.points.proofs.Refusals.{walk-points}
-use Rattle.crossings.specs.Crossings.{reaches, crossing, crossingRules, crossingRefusal}
+use Rattle.crossings.specs.Crossings.{reaches, firstFrom, crossing, crossingRules, crossingRefusal}
 use Rattle.crossings.specs.Answers.{First}
 use Rattle.crossings.proofs.Firsts.{found-at, found-none, at-found, none-found}
 
@@ -45,11 +45,17 @@ module _ (w : Wave) (a n : ℕ) (level : Float) where
 
   pub crossing-at : (k : ℕ) → (crossing w a n level ≡ some k) ↔ Crosses w a n level k
   unfolding crossing
-  crossing-at k = ((λ e. let f = at-found reached (points (w .head)) k e in record { inside = f .1; above = f .0 .passes (f .1); least = λ j l h. up j h (f .0) (ltb j k) refl }), (λ c. found-at reached (points (w .head)) k (record { within = omega (arith, c .inside); passes = λ h. c .above; fails = not-yet k c }) (c .inside)))
+  crossing-at k = (to, from)
     where
       up : (j : ℕ) → reached j ≡ true → First reached (points (w .head)) k → (b : Bool) → ltb j k ≡ b → k ≤ j
       up j h f true e = absurd (false≢true (sym (f .fails j (ltb-true j k e)) ∙ h))
       up j h f false e = ltb-false j k e
+
+      to : firstFrom reached 0 (points (w .head)) ≡ some k → Crosses w a n level k
+      to e = let f = at-found reached (points (w .head)) k e in record { inside = f .1; above = f .0 .passes (f .1); least = λ j l h. up j h (f .0) (ltb j k) refl }
+
+      from : Crosses w a n level k → firstFrom reached 0 (points (w .head)) ≡ some k
+      from c = found-at reached (points (w .head)) k (record { within = omega (arith, c .inside); passes = λ h. c .above; fails = not-yet k c }) (c .inside)
 
   pub crossing-none : (crossing w a n level ≡ none) ↔ ((k : ℕ) → k < points (w .head) → reaches level (value w a n k) ≡ false)
   unfolding crossing

@@ -1,4 +1,3 @@
-pub mod Order
 pub mod Ranks
 pub mod Rising
 pub mod Halves

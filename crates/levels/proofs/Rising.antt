@@ -15,10 +15,10 @@ use Rattle.rules.specs.Points.{signedBy, units, valueOf, exactValue}
 use Rattle.rules.proofs.Signs.{abs-signed, times}
 use Rattle.rules.proofs.Products.{times-sum, add-part}
 use Rattle.rules.proofs.Near.{Rounds, value-near, value-rounds}
+use Rattle.rules.proofs.Order.{le-on}
 use Rattle.rules.proofs.Rounds.{rounds-order}
 use Rattle.scale.proofs.Finite.{whole-finite}
 use Rattle.levels.specs.Levels.{ranked, Rises}
-use Rattle.levels.proofs.Order.{le-through}
 use Rattle.levels.proofs.Ranks.{rank-fits, rank-step}
 
 -- ---- the gain's sign, by which values fall as samples rise, or rise with them; a gain of 0 has either
@@ -90,4 +90,4 @@ module _ (gain offset : Float) (p : T (fits binary32 gain)) (q : T (fits binary3
   -- where a sample reaches the level, those of higher rank do
   pub reaches-rises : (level : Float) → T (finite level) → Rises (λ j. le level (valueOf gain offset (ranked f j))) 65536
   reaches-rises level r i j l m t =
-      le-through level (valueOf gain offset (ranked f i)) (valueOf gain offset (ranked f j)) r (value-finite i (omega arith)) (value-finite j m) t (value-rises i j l m)
+      le-on level (valueOf gain offset (ranked f i)) (valueOf gain offset (ranked f j)) r (value-finite i (omega arith)) (value-finite j m) t (value-rises i j l m)
