@@ -1,9 +1,10 @@
 -- What a crossing answers, each case of the enum by its numbers, and what the scan finds. Definitions only.
 use mathlib.Core.Path.{_≡_}
 use Prim.Native.Nat.{ℕ, zero, suc, _≤_, _<_}
-use mathlib.Core.Bool.{Bool, true, false}
-use mathlib.Core.List.{List}
+use mathlib.Core.Bool.{Bool, true, false, _||_}
+use mathlib.Core.List.{List, [], _∷_}
 use mathlib.Core.Option.{Option, none, some}
+use lib.IntN.{ℤ}
 use lib.Ieee.{Float}
 use Rattle.rules.specs.Rules.{opened}
 use Rattle.crossings.specs.Crossings.{crossing, crossingRefusal}
@@ -26,6 +27,11 @@ abbrev pub toldBy : Crossing → Told
 toldBy (At k) = record { refusal = 0; found = 1; point = k }
 toldBy Nowhere = record { refusal = 0; found = 0; point = 0 }
 toldBy (Refused n) = record { refusal = n; found = 0; point = 0 }
+
+-- one of some samples passes a test
+abbrev pub some? : (ℤ → Bool) → List ℤ → Bool
+some? test [] = false
+some? test (z ∷ zs) = test z || some? test zs
 
 -- k is the first of the numbers below n that passes a test, or n where none does
 pub record First (test : ℕ → Bool) (n k : ℕ) : Type 0 where

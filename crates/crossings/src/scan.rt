@@ -1,13 +1,14 @@
 // The first sample between two numbers: blocks of sixty-four samples that have none are passed over, which compiles to vector code, and
 // then one sample after the other.
 ghost use mathlib.Core.Path.{_≡_};
-ghost use mathlib.Core.Bool.{false};
-ghost use Prim.Native.Nat.{ℕ, _<_, _≤_};
-ghost use lib.ListN.{length, getD};
-ghost use lib.IntN.{pos};
+ghost use mathlib.Core.Bool.{true, false};
+ghost use mathlib.Core.List.{map};
+ghost use Prim.Native.Nat.{ℕ, _-_, _<_, _≤_};
+ghost use lib.ListN.{length};
+ghost use Rattle.rules.specs.Numbers.{upFrom};
 ghost use Rattle.fills.specs.Fills.{Holds, sampleAt};
 ghost use Rattle.levels.specs.Levels.{between};
-ghost use Rattle.crossings.specs.Answers.{First};
+ghost use Rattle.crossings.specs.Answers.{some?, First};
 
 // The number of the first of `count` samples from `from` that stands from low to high, or `count`.
 pub(crate) fn first_between(
@@ -33,7 +34,7 @@ pub(crate) fn first_between(
     count
 }
 
-// How many samples are passed over, none of them from low to high.
+// How many samples are passed over, none of them from low to high: all before the block that has one, or before those that fill no block.
 fn passed(
     block: &[u8],
     from: usize,
@@ -46,6 +47,7 @@ fn passed(
     requires { ⌜ Holds (now block) from count size ⌝ }
     ensures { λ r. ⌜ r ≤ count ⌝ }
     ensures { λ r. ⌜ ((j : ℕ) → j < r → between low high (sampleAt order size (now (block .entry)) from j) ≡ false) ⌝ }
+    ensures { λ r. ⌜ (64 ≤ count - r → some? (between low high) (map (sampleAt order size (now (block .entry)) from) (upFrom r 64)) ≡ true) ⌝ }
 {
     let mut samples = [0i16; 64];
     let mut i = 0;
@@ -62,7 +64,7 @@ fn passed(
 // Whether one of sixty-four samples stands from low to high.
 fn any_between(samples: &[i16; 64], low: i16, high: i16) -> bool
     requires { ⌜ length (now samples) ≡ 64 ⌝ }
-    ensures { λ r. ⌜ (r ≡ false → (k : ℕ) → k < 64 → between low high (getD (now (samples .entry)) k (pos 0)) ≡ false) ⌝ }
+    ensures { λ r. ⌜ r ≡ some? (between low high) (now (samples .entry)) ⌝ }
 {
     let mut any = false;
     let mut k = 0;

@@ -27,7 +27,7 @@ passed-requires : tie.Need-passed-requires Inv-loop μ-loop
 passed-requires c κs = search needs
 
 loop-holds : tie.Need-loop-holds Inv-loop μ-loop
-loop-holds c = (c .passed .ensures .0, c .passed .ensures .1)
+loop-holds c = (c .passed .ensures .0, c .passed .ensures .1 .0)
 
 sample-requires : tie.Need-sample-requires Inv-loop μ-loop
 sample-requires c κs = fewer (c .before .before .before .before .pre) _ (omega arith)

@@ -1,17 +1,21 @@
 -- A block of sixty-four samples is passed over where none of them is between.
-use mathlib.Core.Path.{_≡_, refl, ap, _∙_}
+use mathlib.Core.Path.{_≡_, refl, sym, ap, ap₂, _∙_}
 use mathlib.Core.Bool.{false}
+use mathlib.Core.List.{List, map}
 use Prim.Native.Nat.{ℕ, _-_, _≤_, _<_}
 use native.Mathlib.Omega.{arith}
 use lib.IntN.{ℤ}
 use lib.ListN.{length}
 use mir.Syntax.{w16}
 use mir.Val.{ofZ}
+use mir.ValLaws.{toZ-ofZ}
 use borrow.Author.Needs.{needs}
+use Rattle.rules.specs.Numbers.{upFrom}
 use Rattle.fills.specs.Fills.{sampleAt}
 use Rattle.fills.proofs.Sampling.{fewer}
 use Rattle.fills.proofs.Writes.{length-map-up}
 use Rattle.levels.specs.Levels.{between}
+use Rattle.crossings.specs.Answers.{some?}
 use Rattle.crossings.proofs.Scans.{bitsBetween, as-lent, block-next}
 use Rattle.crossings.proofs.scan.passed.Statement.{statement}
 use Rattle.crossings.proofs.scan.passed.Tie as tie
@@ -44,8 +48,22 @@ so-far c =
     let s = c .before .before in
     (c .loop .inv .0, λ j h. as-lent (s .args .low) (s .args .high) _ (s .fits .low) (s .fits .high) ∙ c .loop .inv .2 j h)
 
+-- what the comparisons say of the block that was read
+has-one : (c : tie.After-any-between Inv-loop μ-loop)
+    → (let a = c .before .before .before .before .before .before .before .args in
+    some? (between (a .low) (a .high)) (map (sampleAt (a .order) (a .size) (a .block .now) (a .from)) (upFrom (c .before .before .before .before .before .loop .i) 64)) ≡ c .any-between .result)
+has-one c =
+    let s = c .before .before .before .before .before .before .before in
+    let a = s .args in
+    let t = bitsBetween (ofZ w16 (a .low)) (ofZ w16 (a .high)) in
+    let zs : List ℤ = map (sampleAt (a .order) (a .size) (a .block .now) (a .from)) (upFrom (c .before .before .before .before .before .loop .i) 64) in
+    ap₂ (λ (x y : ℤ). some? (between x y) zs) (sym (toZ-ofZ w16 (a .low) (s .fits .low))) (sym (toZ-ofZ w16 (a .high) (s .fits .high)))
+    ∙ ap (some? t) (sym (c .before .before .read-samples .ensures)) ∙ sym (c .any-between .ensures)
+
 returns : tie.Need-returns Inv-loop μ-loop
-returns c = so-far (c .before .before .before .before .before .before)
+returns c =
+    let r = so-far (c .before .before .before .before .before .before) in
+    (r .0, (r .1, λ h. has-one (c .before) ∙ c .if1 .taken))
 
 add-i : tie.Need-add-i Inv-loop μ-loop
 add-i c = search needs
@@ -61,11 +79,11 @@ loop-again c =
     let f : ℕ → ℤ = sampleAt (a .order) (a .size) (a .block .now) (a .from) in (
       omega arith,
       ap length (r .ensures) ∙ length-map-up f (l .i) 64,
-      block-next (bitsBetween (ofZ w16 (a .low)) (ofZ w16 (a .high))) f _ (l .i) (r .ensures) (l .inv .2) (c .before .any-between .ensures (c .if1 .left)),
+      block-next (bitsBetween (ofZ w16 (a .low)) (ofZ w16 (a .high))) f _ (l .i) (r .ensures) (l .inv .2) (sym (c .before .any-between .ensures) ∙ c .if1 .left),
     )
 
 returns-2 : tie.Need-returns-2 Inv-loop μ-loop
-returns-2 c = so-far (c .before)
+returns-2 c = let r = so-far (c .before) in (r .0, (r .1, λ h. absurd (omega arith)))
 
 pub passed-spec : {M : Type 1} → statement M
 passed-spec =
