@@ -6,23 +6,22 @@ use mathlib.Core.Bool.{Bool, true, false}
 use mathlib.Core.List.{List}
 use Prim.Native.Nat.{ℕ, zero, suc, _+_, _*_, _^_, _≤_, _<_}
 use native.Mathlib.Omega.{arith}
-use lib.ListN.{getD, take, drop, length-take}
+use lib.ListN.{getD}
 use lib.IntN.{ℤ}
 use lib.Signed.{mag}
 use lib.Ieee.{Float, le}
 use lib.Ieee.Scale.{finite}
 use contract.Lifetimes.{Lfts}
 use denote.Ref.{RefT, at-last as holding}
-use Rattle.rules.specs.Numbers.{Bytes, number}
+use Rattle.rules.specs.Numbers.{Bytes}
 use Rattle.rules.specs.Wave.{points}
 use Rattle.rules.specs.Rules.{first, refusal, opened}
 use Rattle.rules.specs.Cut.{orElse}
 use Rattle.rules.specs.Points.{valueOf, value, pointRefusal}
 use Rattle.rules.proofs.Tests.{or-some}
-use Rattle.rules.proofs.Numbers.{below-take, below-drop, number-below}
-use Rattle.rules.proofs.Asked.{sample-fits}
 use Rattle.rules.proofs.Headers.{SameAnswers}
 use Rattle.fills.specs.Fills.{sampleAt, valueAt}
+use Rattle.fills.proofs.Sampling.{in-word}
 use Rattle.block.specs.declared.Opened.{Opened}
 use Rattle.block.specs.Opened.{openedAs}
 use Rattle.block.proofs.Answers.{number-is}
@@ -41,12 +40,6 @@ use Rattle.crossings.proofs.first.Reads as reads
 
 -- ---- the samples of an accepted block, where they stand
 
-fits-there : (o kind from k : ℕ) (s : List ℕ) → Bytes s → kind ≤ 1 → mag (sampleAt o (kind + 1) s from k) < 2 ^ 15
-fits-there o kind from k s b h =
-    let bs : List ℕ = drop (from + k * (kind + 1)) s in
-    sample-fits kind (number o (take (kind + 1) bs)) h
-    (number-below o (kind + 1) (take (kind + 1) bs) (below-take 256 (kind + 1) bs (below-drop 256 (from + k * (kind + 1)) s b)) (omega (arith, length-take (kind + 1) bs)))
-
 module _ (s : List ℕ) (b : Bytes s) (o : Opened) (a n : ℕ) (l : Lent s o a n 0) (level : Float) where
   pub first-is : (low high : ℤ) → ((z : ℤ) → mag z < 2 ^ 15 → le level (valueOf (o .calibration .gain) (o .calibration .offset) z) ≡ between low high z)
       → (from k : ℕ) → from ≡ samplesBy o a n → First (λ j. between low high (sampleAt (o .order) (o .kind + 1) s from j)) (o .points) k → First (λ j. reaches level (value (opened s) a n j)) (o .points) k
@@ -56,7 +49,7 @@ module _ (s : List ℕ) (b : Bytes s) (o : Opened) (a n : ℕ) (l : Lent s o a n
       same : (j : ℕ) → j < o .points → between low high (sampleAt (o .order) (o .kind + 1) s from j) ≡ reaches level (value (opened s) a n j)
       same j i =
           ap (λ (x : ℕ). between low high (sampleAt (o .order) (o .kind + 1) s x j)) e
-          ∙ sym (h (sampleAt (o .order) (o .kind + 1) s (samplesBy o a n) j) (fits-there (o .order) (o .kind) (samplesBy o a n) j s b (kind-small s b o a n 0 l)))
+          ∙ sym (h (sampleAt (o .order) (o .kind + 1) s (samplesBy o a n) j) (in-word (o .order) (o .kind + 1) s (samplesBy o a n) j b (omega arith, omega (arith, kind-small s b o a n 0 l))))
           ∙ ap (le level) (unfold valueAt in value-is s b o a n j (each s b o a n l j i))
 
 -- ---- refused calls

