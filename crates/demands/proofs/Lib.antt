@@ -9,3 +9,5 @@ pub mod Narrowings
 pub mod HostNarrowings
 pub mod Crossings
 pub mod HostCrossings
+pub mod Strips
+pub mod HostStrips

@@ -1,5 +1,5 @@
--- What the calls answer: the samples where they stand are the segment's (`drawn-strip`); refused calls (`refused`) and one that is not (`drawn-is`). Last, by the
--- contracts: one answer for one input (`strip-determined`, `bytes-determined`), and for the same payload under another accepted header (`strip-same`).
+-- What the calls answer: the samples where they stand are the segment's (`drawn-strip`); refused calls (`refused`, `left-alone`) and one that is not (`drawn-is`, `left-is`), and the number read back (`drawn-number`). Last, by the
+-- contracts: one answer for one input (`strip-determined`, `bytes-determined`), and for the same payload under another accepted header (`call-same`).
 use mathlib.Core.Path.{_≡_, refl, sym, ap, ap₂, _∙_, subst}
 use mathlib.Core.List.{List}
 use Prim.Native.Nat.{ℕ, zero, suc, _+_, _*_, _/_, _≤_, _<_}
@@ -7,9 +7,13 @@ use native.Mathlib.Omega.{arith}
 use lib.IntN.{ℤ}
 use lib.ListN.{length}
 use Rattle.rules.specs.Numbers.{Bytes}
-use Rattle.rules.specs.Wave.{points, startsOf}
-use Rattle.rules.specs.Rules.{opened}
+use contract.Lifetimes.{Lfts}
+use denote.Ref.{RefT, at-last as holding}
+use Rattle.rules.specs.Wave.{Wave, points, startsOf}
+use Rattle.rules.specs.Rules.{first, opened}
+use Rattle.rules.specs.Cut.{orElse}
 use Rattle.rules.specs.Points.{sample}
+use Rattle.rules.proofs.Headers.{SameAnswers}
 use Rattle.fills.specs.Fills.{Holds, sampleAt, over}
 use Rattle.block.specs.declared.Opened.{Opened}
 use Rattle.block.proofs.Answers.{number-is}
@@ -17,10 +21,13 @@ use Rattle.points.specs.Steps.{samplesBy, Lent}
 use Rattle.points.proofs.Refusals.{points-are}
 use Rattle.points.proofs.Values.{is, sample-is, kind-small}
 use Rattle.points.proofs.Fillings.{each, put-room}
-use Rattle.strips.specs.Strips.{Strip, strip, stripOf, stripRefusal}
+use Rattle.strips.specs.Strips.{Strip, strip, stripOf, stripRules, stripRefusal}
 use Rattle.strips.specs.declared.Drawn.{Drawn}
-use Rattle.strips.specs.Answers.{refusedStrip, drawnBy, drawnAs, leftWith, Drawable}
+use Rattle.strips.specs.Answers.{refusedStrip, drawnBy, drawnAs, leftWith, leastsLeft, greatestsLeft, Drawable}
+use Rattle.strips.proofs.Refusals.{strip-refusal}
 use Rattle.strips.proofs.Strips.{accepted, points-asked, some-columns, most-columns, points-most, strip-same}
+use Rattle.strips.proofs.strip.Reads as strip-reads
+use Rattle.strips.proofs.strip_bytes.Reads as bytes-reads
 
 -- ---- a strip that is not refused
 
@@ -85,3 +92,49 @@ module _ (s : List ℕ) (a n w low high : ℕ) (e : stripRefusal s a n w low hig
 
   pub left-is : {A : Type 0} (xs out : List A) → over out 0 xs ≡ leftWith (stripRefusal s a n w low high) xs out
   left-is xs out = ap (λ (k : ℕ). leftWith k xs out) (sym e)
+
+-- what a call answered, read back: its number, and where that is 0 the strip and what it left
+pub drawn-number : (s : List ℕ) (a n w low high : ℕ) → drawnAs s a n w low high .refusal ≡ stripRefusal s a n w low high
+unfolding drawnAs
+drawn-number s a n w low high = go (stripRefusal s a n w low high)
+  where
+    go : (m : ℕ) → drawnBy m (stripOf (opened s) a n w) .refusal ≡ m
+    go zero = refl
+    go (suc m) = refl
+
+-- ---- the calls by their contracts
+
+-- What the caller of `strip` learns, as the checker has it from the `ensures`: lent a block of the bytes s and two slices that hold these numbers, the call answered
+-- d and left these in the two. `holding b s` is the slice b with s in it
+abbrev pub StripCall : List ℕ → ℕ → ℕ → ℕ → List ℤ → List ℤ → Drawn → List ℤ → List ℤ → Type 0
+StripCall s a n w least greatest d low high =
+    (κs : Lfts 3) × (b : RefT (List ℕ)) × (l : RefT (List ℤ)) × (g : RefT (List ℤ))
+    × strip-reads.Learnt κs (holding b s, (a, (n, (w, (holding l least, (holding g greatest, tt)))))) d (holding b s, (a, (n, (w, (holding l low, (holding g high, tt))))))
+
+-- the same of `strip_bytes`, with bytes in the two
+abbrev pub BytesCall : List ℕ → ℕ → ℕ → ℕ → List ℕ → List ℕ → Drawn → List ℕ → List ℕ → Type 0
+BytesCall s a n w least greatest d low high =
+    (κs : Lfts 3) × (b : RefT (List ℕ)) × (l : RefT (List ℕ)) × (g : RefT (List ℕ))
+    × bytes-reads.Learnt κs (holding b s, (a, (n, (w, (holding l least, (holding g greatest, tt)))))) d (holding b s, (a, (n, (w, (holding l low, (holding g high, tt))))))
+
+module _ (s : List ℕ) (a n w : ℕ) where
+  pub strip-determined : (least greatest : List ℤ) (d e : Drawn) (x y u v : List ℤ) → StripCall s a n w least greatest d x u → StripCall s a n w least greatest e y v → (d ≡ e) × (x ≡ y) × (u ≡ v)
+  strip-determined least greatest d e x y u v p q = (p .4 .0 ∙ sym (q .4 .0), p .4 .1 .0 ∙ sym (q .4 .1 .0), p .4 .1 .1 ∙ sym (q .4 .1 .1))
+
+  pub bytes-determined : (least greatest : List ℕ) (d e : Drawn) (x y u v : List ℕ) → BytesCall s a n w least greatest d x u → BytesCall s a n w least greatest e y v → (d ≡ e) × (x ≡ y) × (u ≡ v)
+  bytes-determined least greatest d e x y u v p q = (p .4 .0 ∙ sym (q .4 .0), p .4 .1 .0 ∙ sym (q .4 .1 .0), p .4 .1 .1 ∙ sym (q .4 .1 .1))
+
+-- the same payload under two accepted headers: the same number, and so the same answer and the same left
+pub same-refusal : (s t : List ℕ) → SameAnswers s t → (a n w low high : ℕ) → stripRefusal t a n w low high ≡ stripRefusal s a n w low high
+same-refusal s t e a n w low high =
+    strip-refusal t a n w low high ∙ ap₂ {C = ℕ} (λ m v. orElse m (first (stripRules w low high (v .head)))) (e .same-walk a n) (e .same-wave) ∙ sym (strip-refusal s a n w low high)
+
+pub call-same : (s t : List ℕ) → SameAnswers s t → (a n w : ℕ) (least greatest : List ℤ) (d e : Drawn) (x y u v : List ℤ) → StripCall s a n w least greatest d x u → StripCall t a n w least greatest e y v → (e ≡ d) × (y ≡ x) × (v ≡ u)
+unfolding drawnAs leastsLeft greatestsLeft
+call-same s t h a n w least greatest d e x y u v p q =
+    let r = same-refusal s t h a n w (length least) (length greatest) in
+    let z : stripOf (opened t) a n w ≡ stripOf (opened s) a n w = ap (λ (o : Wave). stripOf o a n w) (h .same-wave) in (
+      q .4 .0 ∙ (λ i. drawnBy (r i) (z i)) ∙ sym (p .4 .0),
+      q .4 .1 .0 ∙ (λ i. leftWith (r i) (z i .leasts) least) ∙ sym (p .4 .1 .0),
+      q .4 .1 .1 ∙ (λ i. leftWith (r i) (z i .greatests) greatest) ∙ sym (p .4 .1 .1),
+    )

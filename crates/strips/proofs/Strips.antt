@@ -1,7 +1,7 @@
 -- What every accepted strip answers: every point is in one column (`in-one-column`) and none is empty (`column-some`), each column's least and greatest sample
 -- (`strip-column`), the least of the leasts and the greatest of the greatests (`strip-least`, `strip-greatest`), the first point that holds the greatest
 -- (`strip-peak`), the marks of a fill (`strip-marks`), where W is even that its columns joined in neighbouring pairs are the strip of W/2 (`strip-halved`), which
--- is accepted too (`half-accepted`), and numbers that fit their types (`strip-typed`). When it is refused: `strip-refusal`.
+-- is accepted too (`half-accepted`), and numbers that fit their types (`strip-typed`).
 use mathlib.Core.Path.{_≡_, refl, sym, ap, ap₂, _∙_, subst}
 use Prim.Native.Nat.{ℕ, zero, suc, _+_, _-_, _*_, _/_, _%_, _^_, _≤_, _<_}
 use native.Mathlib.Nat.{lt-of-lt-of-le, mul-le-mul-left, div-le-self}
@@ -110,14 +110,6 @@ module _ (f h : ℕ → ℤ) (m : ℕ) (same : (k : ℕ) → k < m → f k ≡ h
       firsts = first-same (λ k. equal (f k) (greatest (run f 0 m))) (λ k. equal (h k) (greatest (run h 0 m))) m 0 (λ k l. ap₂ equal (same k (omega arith)) (ap greatest (run-same 0 m (omega arith))))
 
 -- ---- of an accepted call
-
--- 9 and 10 of a strip are those of a walk; then 11, and 13
-pub strip-refusal : (s : List ℕ) (a n w low high : ℕ) → stripRefusal s a n w low high ≡ orElse (walkRefusal s a n) (first (stripRules w low high (opened s .head)))
-unfolding stripRefusal walkRefusal segmentRules
-strip-refusal s a n w low high =
-    let h : ℕ → ℕ = opened s .head in
-    ap first (sym (append-assoc (rules s) (segmentRules a n h) (stripRules w low high h)))
-    ∙ first-append (rules s ++ segmentRules a n h) (stripRules w low high h) (numbered-append (rules s) (segmentRules a n h) (rules-numbered s) (omega arith))
 
 -- column q of w of m points with the samples f has this least and this greatest
 pub record Column (f : ℕ → ℤ) (m w q : ℕ) (low high : ℤ) : Type 0 where

@@ -1,11 +1,11 @@
 -- Two numbers that a call's contract allows for one input are equal, and so are the bytes left in the slices: `open-determined`, `point-determined`,
--- `fill-determined`, `crossing-determined`, `cut-determined`, `combined-determined`, `join-determined`, `narrow-determined`, `layout-determined`, `text-determined`, `label-determined`.
+-- `fill-determined`, `crossing-determined`, `strip-determined`, `cut-determined`, `combined-determined`, `join-determined`, `narrow-determined`, `layout-determined`, `text-determined`, `label-determined`.
 use mathlib.Core.Path.{_≡_, sym, _∙_}
 use mathlib.Core.List.{List}
 use Prim.Native.Nat.{ℕ}
 use lib.Ieee.{Float}
 use Rattle.rules.specs.Cut.{Setup}
-use Rattle.tessarquin.proofs.Learnt.{OpenCall, PointCall, FillCall, CrossingCall, CutCall, CombinedCall, JoinCall, NarrowCall, LayoutCall, TextCall, LabelCall}
+use Rattle.tessarquin.proofs.Learnt.{OpenCall, PointCall, FillCall, CrossingCall, StripCall, CutCall, CombinedCall, JoinCall, NarrowCall, LayoutCall, TextCall, LabelCall}
 
 pub open-determined : (s answer : List ℕ) (m n : ℕ) (x y : List ℕ) → OpenCall s answer m x → OpenCall s answer n y → (m ≡ n) × (x ≡ y)
 open-determined s answer m n x y p q = (p .3 .0 ∙ sym (q .3 .0), p .3 .1 ∙ sym (q .3 .1))
@@ -20,6 +20,11 @@ pub crossing-determined : (s : List ℕ) (array segment : ℕ) (level : Float) (
 crossing-determined s array segment level answer m n x y p q = (p .3 .0 ∙ sym (q .3 .0), p .3 .1 ∙ sym (q .3 .1))
 
 -- the number, the slice of the block and the slice of c and the length
+pub strip-determined : (s : List ℕ) (array segment w : ℕ) (least greatest answer : List ℕ) (m n : ℕ) (x y u v p q : List ℕ)
+    → StripCall s array segment w least greatest answer m x u p → StripCall s array segment w least greatest answer n y v q → (m ≡ n) × (x ≡ y) × (u ≡ v) × (p ≡ q)
+strip-determined s array segment w least greatest answer m n x y u v p q c d =
+    (c .5 .0 ∙ sym (d .5 .0), c .5 .1 .0 ∙ sym (d .5 .1 .0), c .5 .1 .1 .0 ∙ sym (d .5 .1 .1 .0), c .5 .1 .1 .1 ∙ sym (d .5 .1 .1 .1))
+
 pub cut-determined : (s : List ℕ) (c : Setup) (order : ℕ) (out answer : List ℕ) (m n : ℕ) (x y u v : List ℕ) → CutCall s c order out answer m x u → CutCall s c order out answer n y v → (m ≡ n) × (x ≡ y) × (u ≡ v)
 cut-determined s c order out answer m n x y u v p q = (p .4 .0 ∙ sym (q .4 .0), p .4 .1 .0 ∙ sym (q .4 .1 .0), p .4 .1 .1 ∙ sym (q .4 .1 .1))
 

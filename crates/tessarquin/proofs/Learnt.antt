@@ -1,5 +1,5 @@
 -- What a caller learns of a call for C, as the checker has it from the `ensures` of the call: `OpenCall`, `PointCall`, `FillCall`, `CrossingCall`,
--- `CutCall`, `CombinedCall`, `JoinCall`, `NarrowCall`, `LayoutCall`, `TextCall`, `LabelCall`. A theorem over these speaks of the contract itself. `holding b s` is the slice b with the bytes s in it.
+-- `StripCall`, `CutCall`, `CombinedCall`, `JoinCall`, `NarrowCall`, `LayoutCall`, `TextCall`, `LabelCall`. A theorem over these speaks of the contract itself. `holding b s` is the slice b with the bytes s in it.
 use mathlib.Core.List.{List}
 use Prim.Native.Nat.{ℕ}
 use lib.Ieee.{Float}
@@ -10,6 +10,7 @@ use Rattle.tessarquin.proofs.tessarquin_open.Reads as open-reads
 use Rattle.tessarquin.proofs.tessarquin_point.Reads as point-reads
 use Rattle.tessarquin.proofs.tessarquin_fill.Reads as fill-reads
 use Rattle.tessarquin.proofs.crossed.tessarquin_crossing.Reads as crossing-reads
+use Rattle.tessarquin.proofs.drawn.tessarquin_strip.Reads as strip-reads
 use Rattle.tessarquin.proofs.tessarquin_cut.Reads as cut-reads
 use Rattle.tessarquin.proofs.combining.tessarquin_combined.Reads as combined-reads
 use Rattle.tessarquin.proofs.joined.tessarquin_join.Reads as join-reads
@@ -36,6 +37,14 @@ FillCall s array n answer m left =
 abbrev pub CrossingCall : List ℕ → ℕ → ℕ → Float → List ℕ → ℕ → List ℕ → Type 0
 CrossingCall s array n level answer m left =
     (κs : Lfts 2) × (b : RefT (List ℕ)) × (a : RefT (List ℕ)) × crossing-reads.Learnt κs (holding b s, (array, (n, (level, (holding a answer, tt))))) m (holding b s, (array, (n, (level, (holding a left, tt)))))
+
+-- lent a block of the bytes s, a slice for the leasts of w columns, one for the greatests and one for the answer, `tessarquin_strip` returned m and left these bytes in
+-- the three
+abbrev pub StripCall : List ℕ → ℕ → ℕ → ℕ → List ℕ → List ℕ → List ℕ → ℕ → List ℕ → List ℕ → List ℕ → Type 0
+StripCall s array n w least greatest answer m low high third =
+    (κs : Lfts 4) × (b : RefT (List ℕ)) × (l : RefT (List ℕ)) × (g : RefT (List ℕ)) × (a : RefT (List ℕ))
+    × strip-reads.Learnt κs (holding b s, (array, (n, (w, (holding l least, (holding g greatest, (holding a answer, tt))))))) m
+    (holding b s, (array, (n, (w, (holding l low, (holding g high, (holding a third, tt)))))))
 
 -- lent a block of the bytes s, a slice for the block that is cut and one for c and its length, `tessarquin_cut` returned m and left these bytes in the two
 abbrev pub CutCall : List ℕ → Setup → ℕ → List ℕ → List ℕ → ℕ → List ℕ → List ℕ → Type 0

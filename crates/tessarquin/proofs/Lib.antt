@@ -3,6 +3,7 @@ pub mod Slices
 pub mod Filling
 pub mod Pairs
 pub mod Crossing
+pub mod Stripping
 pub mod Cutting
 pub mod Joining
 pub mod Narrowing

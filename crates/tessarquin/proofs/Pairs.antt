@@ -1,8 +1,8 @@
 -- What a call with two slices returns and leaves, one for a block and one for numbers: where the second is too short (`without-room`), refused (`refused`) or answered (`answered`).
 use mathlib.Core.Path.{_≡_, refl, sym, ap, _∙_}
-use mathlib.Core.Bool.{Bool, true, false, cond}
+use mathlib.Core.Bool.{Bool, cond}
 use mathlib.Core.List.{List}
-use Prim.Native.Nat.{ℕ, zero, suc, _≤_, _<_}
+use Prim.Native.Nat.{ℕ, _≤_, _<_}
 use native.Mathlib.Omega.{arith}
 use lib.Dec.{leb}
 use lib.ListN.{length}
@@ -10,7 +10,7 @@ use borrow.Author.Tests.{lt-leb}
 use Rattle.rules.specs.Numbers.{splice}
 use Rattle.rules.specs.Cut.{orElse}
 use Rattle.tessarquin.specs.Calls.{orRoom, leftBy}
-use Rattle.tessarquin.proofs.Slices.{number-own, number-none, left-as-it-was, left-written}
+use Rattle.tessarquin.proofs.Slices.{number-own, number-without, number-none, left-as-it-was, left-written}
 
 -- The call's own number for a first slice of so much room is that of the rules before 13, and then 13; `bytes` go to the first slice, `told` to the second
 module _ (before : ℕ) (bytes told : List ℕ) (own : ℕ → ℕ) (own-is : (room : ℕ) → own room ≡ orElse before (cond (leb (length bytes) room) 0 13)) (some : 0 < length bytes) {size : ℕ} (sized : length told ≡ size)
@@ -28,19 +28,8 @@ module _ (before : ℕ) (bytes told : List ℕ) (own : ℕ → ℕ) (own-is : (r
   pub without-room : length answer < size → (m : ℕ) → m ≡ own 0 → Answered m out answer
   without-room h m e =
       let none : own 0 ≡ orElse before 13 = own-is 0 ∙ ap (λ (t : Bool). orElse before (cond t 0 13)) (lt-leb (length bytes) 0 some) in
-      refused-by m (e ∙ none ∙ go before (leb (length bytes) (length out))
-      ∙ ap (λ (t : Bool). orElse (orElse before (cond (leb (length bytes) (length out)) 0 13)) (cond t 0 13)) (sym (lt-leb (length told) (length answer) (omega (arith, sized))))
-      ∙ ap (λ (n : ℕ). orElse n (cond (leb (length told) (length answer)) 0 13)) (sym (own-is (length out))))
-      (λ z. never before (sym none ∙ sym e ∙ z))
-    where
-      go : (n : ℕ) (t : Bool) → orElse n 13 ≡ orElse (orElse n (cond t 0 13)) 13
-      go zero true = refl
-      go zero false = refl
-      go (suc n) t = refl
-
-      never : (n : ℕ) → orElse n 13 ≡ 0 → ⊥
-      never zero e = omega (arith, e)
-      never (suc n) e = omega (arith, e)
+      let r = number-without (own (length out)) told (length answer) before (leb (length bytes) (length out)) (own-is (length out)) (omega (arith, sized)) in
+      refused-by m (e ∙ none ∙ r .0) (λ z. r .1 (sym none ∙ sym e ∙ z))
 
   -- there is room for the numbers: the call's own number n, and what it left in the first slice
   module _ (enough : size ≤ length answer) (n : ℕ) (is : n ≡ own (length out)) (left : List ℕ) where

@@ -1,7 +1,7 @@
 -- What a call returns and leaves in a slice: refused before 13 (`own-refused`), without room (`own-short`), or answered (`own-left`, and back
 -- `own-answered`).
 use mathlib.Core.Path.{_≡_, refl, sym, ap, _∙_}
-use mathlib.Core.Bool.{Bool, cond}
+use mathlib.Core.Bool.{Bool, true, false, cond}
 use mathlib.Core.List.{List, [], _∷_, _++_}
 use Prim.Native.Nat.{ℕ, zero, suc, _+_, _-_, _*_, _≤_, _<_}
 use native.Mathlib.Omega.{arith}
@@ -79,6 +79,22 @@ module _ (n : ℕ) (bs : List ℕ) (room : ℕ) where
   -- with room it is n
   pub number-enough : length bs ≤ room → orRoom n bs room ≡ n
   number-enough h = ap (λ (t : Bool). orElse n (cond t 0 13)) (le-leb (length bs) room h) ∙ or-alone n
+
+  -- where n is that of the rules before 13, and then 13 by other slices: without room the number that the call has with nowhere to go
+  pub number-without : (before : ℕ) (t : Bool) → n ≡ orElse before (cond t 0 13) → room < length bs → (orElse before 13 ≡ orRoom n bs room) × (orElse before 13 ≡ 0 → ⊥)
+  number-without before t e h = (
+    go before t ∙ ap (λ (x : Bool). orElse (orElse before (cond t 0 13)) (cond x 0 13)) (sym (lt-leb (length bs) room h)) ∙ ap (λ (k : ℕ). orRoom k bs room) (sym e),
+    never before,
+  )
+    where
+      go : (k : ℕ) (t : Bool) → orElse k 13 ≡ orElse (orElse k (cond t 0 13)) 13
+      go zero true = refl
+      go zero false = refl
+      go (suc k) t = refl
+
+      never : (k : ℕ) → orElse k 13 ≡ 0 → ⊥
+      never zero e = omega (arith, e)
+      never (suc k) e = omega (arith, e)
 
   module _ (z : n ≡ 0) where
     pub number-short : room < length bs → 13 ≡ orRoom n bs room

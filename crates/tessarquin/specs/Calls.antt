@@ -1,5 +1,5 @@
 -- The calls for a host in C: the number that each returns, and what it leaves in each slice that it was lent. Definitions only.
-use Prim.Native.Nat.{ℕ, zero, suc, _+_}
+use Prim.Native.Nat.{ℕ, zero, suc, _+_, _/_}
 use mathlib.Core.Bool.{cond}
 use mathlib.Core.List.{List, [], _∷_, _++_, map}
 use mathlib.Core.Option.{Option, none, some}
@@ -12,6 +12,8 @@ use Rattle.rules.specs.Rules.{payloadStart, refusal, opened}
 use Rattle.rules.specs.Points.{value, time, mark, markNumber, markCount, pointRefusal, walkRefusal}
 use Rattle.rules.specs.Cut.{Setup, orElse, count, cutBytes, cutRefusal, combined, combinedRefusal}
 use Rattle.crossings.specs.Crossings.{crossing, crossingRefusal}
+use Rattle.strips.specs.Strips.{stripOf, stripRefusal}
+use Rattle.strips.specs.Answers.{unsigned, signedBytes}
 use Rattle.joining.specs.Join.{partsIn, joinedBytes, joinRefusal}
 use Rattle.narrowing.specs.Narrow.{narrowBytes, narrowRefusal}
 use Rattle.block.specs.Opened.{arraysOf}
@@ -76,6 +78,30 @@ crossingNumber s a n level room = orRoom (crossingRefusal s a n level) (crossing
 
 unfoldable pub crossingLeft : List ℕ → ℕ → ℕ → Float → List ℕ → List ℕ
 crossingLeft s a n level answer = leftBy (crossingNumber s a n level (length answer)) (crossingBytes s a n level) answer
+
+-- ---- a strip of segment n of array a in w columns: the leasts to one slice, the greatests to the second; the sum, the marks and the peak to the third
+
+abbrev pub leastBytes : List ℕ → ℕ → ℕ → ℕ → List ℕ
+leastBytes s a n w = signedBytes (stripOf (opened s) a n w .leasts)
+
+abbrev pub greatestBytes : List ℕ → ℕ → ℕ → ℕ → List ℕ
+greatestBytes s a n w = signedBytes (stripOf (opened s) a n w .greatests)
+
+abbrev pub stripAnswer : List ℕ → ℕ → ℕ → ℕ → List ℕ
+stripAnswer s a n w = let t = stripOf (opened s) a n w in allBytes 0 8 (unsigned 8 (t .sum) ∷ t .marks ∷ t .peak ∷ [])
+
+-- 13 of the first two, which have room for a number in each eight bytes, is in the strip's own number
+unfoldable pub stripNumber : List ℕ → ℕ → ℕ → ℕ → ℕ → ℕ → ℕ → ℕ
+stripNumber s a n w low high third = orRoom (stripRefusal s a n w (low / 8) (high / 8)) (stripAnswer s a n w) third
+
+unfoldable pub leastLeft : List ℕ → ℕ → ℕ → ℕ → List ℕ → ℕ → ℕ → List ℕ
+leastLeft s a n w least high third = leftBy (stripNumber s a n w (length least) high third) (leastBytes s a n w) least
+
+unfoldable pub greatestLeft : List ℕ → ℕ → ℕ → ℕ → ℕ → List ℕ → ℕ → List ℕ
+greatestLeft s a n w low greatest third = leftBy (stripNumber s a n w low (length greatest) third) (greatestBytes s a n w) greatest
+
+unfoldable pub stripAnswerLeft : List ℕ → ℕ → ℕ → ℕ → ℕ → ℕ → List ℕ → List ℕ
+stripAnswerLeft s a n w low high answer = leftBy (stripNumber s a n w low high (length answer)) (stripAnswer s a n w) answer
 
 -- ---- a cut in the order q: the block to one slice, c and the block's length to the other
 

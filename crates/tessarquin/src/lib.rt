@@ -2,6 +2,7 @@
 // eight bytes, the high byte first.
 mod combining;
 mod crossed;
+mod drawn;
 mod joined;
 mod narrowed;
 mod parts;
