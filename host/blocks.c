@@ -69,6 +69,28 @@ struct part text_at(const struct opened *o, size_t at, size_t most)
     return (struct part){o->payload + at, tessarquin_field_text_length(o->payload + at, most)};
 }
 
+struct part label_of(const struct opened *o, const char *fallback)
+{
+    uint8_t answer[TESSARQUIN_LABEL_BYTES];
+    const uint8_t *other = (const uint8_t *)fallback;
+    uint32_t refusal = tessarquin_label(o->block.bytes, o->block.length, other, strlen(fallback), answer, sizeof answer);
+    if (refusal)
+        refuse_block(o->block, refusal);
+    const uint8_t *from = tessarquin_number(answer, TESSARQUIN_LABEL_FROM) == 0 ? o->block.bytes : other;
+    return (struct part){from + tessarquin_number(answer, TESSARQUIN_LABEL_START),
+                         (size_t)tessarquin_number(answer, TESSARQUIN_LABEL_LENGTH)};
+}
+
+struct point point_of(const struct opened *o, uint32_t array, uint32_t segment, uint32_t k)
+{
+    uint8_t answer[TESSARQUIN_POINT_BYTES];
+    uint32_t refusal = tessarquin_point(o->block.bytes, o->block.length, array, segment, k, answer, sizeof answer);
+    if (refusal)
+        refuse_question("a point of ", o, (struct asked){.array = array, .segment = segment, .point = k}, refusal);
+    return (struct point){tessarquin_double(answer, TESSARQUIN_POINT_VALUE), tessarquin_double(answer, TESSARQUIN_POINT_TIME),
+                          tessarquin_number(answer, TESSARQUIN_POINT_MARK) != 0};
+}
+
 struct alone cut_out(const struct opened *o, uint32_t n)
 {
     struct block b = o->block;

@@ -1,5 +1,5 @@
 /* In which fields two blocks differ, for the message on files that cannot be joined. It decides nothing. */
-#include "host.h"
+#include "join.h"
 #include "tessarquin.h"
 
 #include <stdlib.h>

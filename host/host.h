@@ -110,6 +110,17 @@ size_t length_of_block(const struct opened *o);
 float float_at(const struct opened *o, size_t at);
 struct part text_at(const struct opened *o, size_t at, size_t most);
 
+/* The label, or this where there is none. */
+struct part label_of(const struct opened *o, const char *fallback);
+
+/* A point, as the library answers it. */
+struct point {
+    double value, time;
+    int mark;
+};
+
+struct point point_of(const struct opened *o, uint32_t array, uint32_t segment, uint32_t k);
+
 /* A segment as a block of its own: its points have the same bits and marks, and a call judges its trigger entry alone.
    `bytes` is the caller's to free. */
 struct alone {
@@ -173,18 +184,6 @@ struct asked {
 _Noreturn void refuse_block(struct block block, uint32_t refusal);
 _Noreturn void refuse_question(const char *what, const struct opened *o, struct asked asked, uint32_t refusal);
 
-/* ---- unfit.c, differ.c: why files cannot be joined */
-
-/* A line for each thing that stands in the way of a join that was refused. The files are by segment index, and are the
-   first of so many that were given. Answers how many lines that were. */
-size_t tell_unfit(const struct opened *parts, size_t count, size_t given);
-
-/* Whether two blocks have another descriptor, but for SEGMENT_INDEX, or another user text. */
-int differ(const struct opened *one, const struct opened *other);
-
-/* The fields of `one` that are others than those of `other`, both as they are there, and the user text. */
-void found_different(FILE *to, const struct opened *one, const struct opened *other);
-
 /* ---- decimal.c: numbers as text; each answers the end of what it wrote */
 
 #define DECIMAL_MOST 32
@@ -226,6 +225,10 @@ struct lines lines_of(const struct opened *o, uint32_t n, struct form form);
    segment and the word none, or in a table a row without point, time, value and mark. */
 void print_point(const struct lines *lines, uint32_t k, const uint8_t *answer);
 void print_none(const struct lines *lines);
+
+/* ---- help.c: how the program is called */
+
+extern const char help[];
 
 /* ---- show.c, rail.c, points.c, cross.c, join.c, combined.c, narrow.c: the commands */
 
@@ -271,6 +274,9 @@ void write_text(FILE *to, const uint8_t *text, size_t length);
 
 /* A blank and the unit, where there is one. */
 void write_unit(FILE *to, struct part unit);
+
+/* The instrument's name, or this where there is none, and its number. */
+void write_instrument(FILE *to, const struct opened *o, const char *none);
 
 /* A line of the program, whose words may be names that somebody typed: as above, but for the backslash; and its end. */
 void write_line(FILE *to, const char *text);

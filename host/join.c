@@ -1,5 +1,5 @@
 /* trace join: the segments that were fetched one by one, in whatever order they arrived, as one block. */
-#include "host.h"
+#include "join.h"
 #include "tessarquin.h"
 
 #include <stdlib.h>

@@ -19,22 +19,6 @@ static double double_at(const struct opened *o, size_t at)
     return tessarquin_field_double(o->payload + at, o->order);
 }
 
-/* A point, as the library answers it. */
-struct point {
-    double value, time;
-    int mark;
-};
-
-static struct point point_of(const struct opened *o, uint32_t array, uint32_t segment, uint32_t k)
-{
-    uint8_t answer[TESSARQUIN_POINT_BYTES];
-    uint32_t refusal = tessarquin_point(o->block.bytes, o->block.length, array, segment, k, answer, sizeof answer);
-    if (refusal)
-        refuse_question("a point of ", o, (struct asked){.array = array, .segment = segment, .point = k}, refusal);
-    return (struct point){tessarquin_double(answer, TESSARQUIN_POINT_VALUE), tessarquin_double(answer, TESSARQUIN_POINT_TIME),
-                          tessarquin_number(answer, TESSARQUIN_POINT_MARK) != 0};
-}
-
 /* ---- lines */
 
 static void print_name(const char *name)
@@ -96,18 +80,6 @@ static void print_range(double from, double to, struct part unit)
 
 /* ---- who, when, what */
 
-static void show_label(const struct opened *o)
-{
-    static const uint8_t none[] = "(none)";
-    uint8_t answer[TESSARQUIN_LABEL_BYTES];
-    uint32_t refusal = tessarquin_label(o->block.bytes, o->block.length, none, sizeof none - 1, answer, sizeof answer);
-    if (refusal)
-        refuse_block(o->block, refusal);
-    const uint8_t *from = tessarquin_number(answer, TESSARQUIN_LABEL_FROM) == 0 ? o->block.bytes : none;
-    print_text("label", (struct part){from + tessarquin_number(answer, TESSARQUIN_LABEL_START),
-                                      (size_t)tessarquin_number(answer, TESSARQUIN_LABEL_LENGTH)});
-}
-
 /* Zero bytes that fill the text up to its length are not shown. */
 static void show_user_text(const struct opened *o)
 {
@@ -124,11 +96,8 @@ static void show_user_text(const struct opened *o)
 
 static void show_instrument(const struct opened *o)
 {
-    int32_t number = long_at(o, TESSARQUIN_AT_INSTRUMENT_NUMBER);
     print_name("instrument");
-    print_text_or_none(text_at(o, TESSARQUIN_AT_INSTRUMENT_NAME, TESSARQUIN_NAME_BYTES));
-    if (number != 0)
-        printf(", number %ld", (long)number);
+    write_instrument(stdout, o, "(none)");
     putchar('\n');
 }
 
@@ -370,7 +339,7 @@ void show(const char *name, int digits_of_results)
     printf("%-17s%s\n", "block", counted((int64_t)o.block.length, "byte"));
     if (before.length > 0)
         print_text("words before it", before);
-    show_label(&o);
+    print_text("label", label_of(&o, "(none)"));
     show_instrument(&o);
     show_user_text(&o);
     show_triggered(&o);

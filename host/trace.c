@@ -1,5 +1,5 @@
 /* Reads a trace file with Tessarquin: the program that an engineer keeps, and that a host author starts from. */
-#include "host.h"
+#include "draw.h"
 #include "tessarquin.h"
 
 #include <ctype.h>
@@ -10,62 +10,6 @@
 #include <signal.h>
 #include <stdlib.h>
 
-static const char help[] =
-    "trace " TESSARQUIN_VERSION ": reads LECROY_2_3 waveform files\n"
-    "\n"
-    "    trace show [--digits N] FILE                                     what the file holds\n"
-    "    trace points [--csv] [--digits N] FILE [ARRAY [SEGMENT]]         its points, in volts and seconds\n"
-    "    trace cross [--csv] [--digits N] FILE LEVEL [ARRAY [SEGMENT]]    the first point of a segment at or above a level\n"
-    "    trace cut [-f] FILE OUT SP NP FP SN hi|lo                        a smaller file\n"
-    "    trace join [-f] OUT FILE..                                       one file of segments that were fetched one by one\n"
-    "    trace combined SP NP FP SN C [SP NP FP SN C]..                   the one cut that stands for cuts of cuts\n"
-    "    trace narrow [-f] FILE OUT                                       a file of half the size, with less precise values\n"
-    "    trace --help | --version\n"
-    "\n"
-    "FILE may be - for standard input. Words before the # of a block, as an oscilloscope answers, are skipped, where the #\n"
-    "is among the first 64 bytes. Behind -- nothing is an option.\n"
-    "\n"
-    "show gives numbers that were worked out six digits, or N. It warns where samples stand at the rail: at the lowest or\n"
-    "the highest number that a sample can be. These may be clipped: a peak, a mean or a rise time with them means nothing.\n"
-    "An instrument may clip before that, at the limits that it states, and a thinned file may have left such samples out.\n"
-    "Which points they are: trace points FILE | awk '$5 == 1'\n"
-    "\n"
-    "points prints a line for each point of array 1, or of ARRAY: segment, point, time, value, and the mark, 1 where the\n"
-    "sample stands at the rail, else 0. All segments, or SEGMENT (from 1 on) alone. Each number has as many digits as are\n"
-    "needed to read the same number back; --digits N, from 1 to 17, gives it N. --csv prints a table with a heading: the\n"
-    "units stand there, and between value and mark the TRIGGER_TIME of the segment, where the file has trigger times.\n"
-    "\n"
-    "cross prints a line for each segment of array 1, or of ARRAY, or for SEGMENT alone: its first point whose value is at\n"
-    "LEVEL or above, as points prints it, or the segment and the word none (in a table a row with empty cells). none is an\n"
-    "answer too, and ends with 0. LEVEL is a decimal number, such as 42, -0.5 or 4.2e1, and is read to the nearest double.\n"
-    "All digits of a value count: 6.9999999 is below 7, though show prints 7 for it. At point 0 the segment starts at LEVEL\n"
-    "or above, and whether and when the signal rose to it the samples do not say: how many do so is told on standard error,\n"
-    "and also where LEVEL is beyond what samples can say. Those that rise to it: trace cross FILE LEVEL | awk '$2 + 0 > 0'\n"
-    "\n"
-    "cut keeps every SP-th point of each segment from point FP on, at most NP of them (0: all), of segment SN alone (0: of\n"
-    "all), and writes numbers with the high byte first (hi) or the low byte (lo). It never loses a file: OUT is there\n"
-    "whole or as it was, it is never FILE itself, and where it is there already only -f replaces it, and not where it is\n"
-    "read-only. OUT may be a pipe, or - for standard output. What was written is told on standard error.\n"
-    "\n"
-    "join takes the segments of one acquisition in any order, each in a FILE of its own, as WAVEFORM_SETUP with SN or a cut\n"
-    "with SN gives it, and writes them to OUT as one sequence, by their segment index: 1 to n, at most 1,000, each once. All\n"
-    "else in the descriptors, and the user text, has to be the same. Which file has which segment is told on standard error;\n"
-    "where they do not fit, all that stands in the way. What is said of OUT at cut holds here too: it is never a FILE.\n"
-    "\n"
-    "combined takes the cuts that were made one after another, each of what the one before it wrote: SP NP FP SN of each,\n"
-    "and C, how many points of each segment it kept, as it told. It prints SP NP FP SN of the one cut of the first FILE that\n"
-    "writes the same bytes as the last of them, in its byte order: trace cut FILE OUT $(trace combined ..) hi. The same in\n"
-    "words is told on standard error. Cuts that cannot have followed each other, or cannot have kept C, are refused.\n"
-    "\n"
-    "narrow keeps the high byte of each sample that is a word, and makes the gain 256 times itself: times stay, and each\n"
-    "value is as it was or lower (where the gain is below 0: higher), by less than the new gain. The low bytes are lost, so\n"
-    "keep FILE where they matter. The loss is told on standard error: the step of a sample now and before, and how many\n"
-    "samples came to stand at the rail. Samples that are bytes already stay. What is said of OUT at cut holds here too.\n"
-    "\n"
-    "It ends with 0; 1 where the file or what was asked is refused; 2 where it was called wrongly; 3 where a file or\n"
-    "the memory failed, or OUT is in the way. What went wrong stands in one line on standard error, the last where there\n"
-    "are more.\n";
-
 static int is(const char *word, const char *other)
 {
     return strcmp(word, other) == 0;
@@ -73,11 +17,12 @@ static int is(const char *word, const char *other)
 
 /* ---- the words of a command */
 
-enum { CSV = 1, DIGITS = 2, FORCE = 4 };
+enum { CSV = 1, DIGITS = 2, FORCE = 4, VIEW = 8 };
 
 /* What stands behind the command's name. */
 struct line {
     int count, csv, digits, replace;
+    struct view view;
     const char **words;
 };
 
@@ -127,13 +72,22 @@ static double level(const char *word)
     return x;
 }
 
-static int digits(const char *word)
+/* The word behind an option: a number from 1 to `most`. */
+static uint32_t at_most(uint32_t most, const char *option, const char *word)
 {
     char *end;
     unsigned long n = word && isdigit((unsigned char)*word) ? strtoul(word, &end, 10) : 0;
-    if (n < 1 || n > 17 || *end)
-        fail(USAGE, "--digits takes a number from 1 to 17; trace --help tells how it is called");
-    return (int)n;
+    if (n < 1 || n > most || *end)
+        fail(USAGE, "%s takes a number from 1 to %u; trace --help tells how it is called", option, (unsigned)most);
+    return (uint32_t)n;
+}
+
+/* The word behind an option: any number, which the library judges. */
+static uint32_t any_number(const char *option, const char *word)
+{
+    if (!word)
+        fail(USAGE, "%s takes a number; trace --help tells how it is called", option);
+    return number(word);
 }
 
 /* A word with a - before it that is no number, as -5, -.5 and -inf are, and not - itself. */
@@ -144,10 +98,36 @@ static int is_option(const char *word)
     return word[0] == '-' && word[1] && !strchr(".0123456789", word[1]) && *end;
 }
 
+/* Whether the option is known to the command. `next` is the word behind it, or null; `taken` is set where it belongs to
+   the option. */
+static int read_option(const struct command *c, struct line *line, const char *option, const char *next, int *taken)
+{
+    int numbered = (is(option, "--digits") && c->options & DIGITS)
+                || ((is(option, "--array") || is(option, "--segment") || is(option, "--width")) && c->options & VIEW);
+    *taken = numbered;
+    if (is(option, "--csv") && c->options & CSV)
+        line->csv = 1;
+    else if (is(option, "-f") && c->options & FORCE)
+        line->replace = 1;
+    else if (is(option, "--text") && c->options & VIEW)
+        line->view.text = 1;
+    else if (!numbered)
+        return 0;
+    else if (is(option, "--digits"))
+        line->digits = (int)at_most(17, option, next);
+    else if (is(option, "--width"))
+        line->view.width = at_most(WIDTH_MOST, option, next);
+    else if (is(option, "--array"))
+        line->view.array = any_number(option, next);
+    else
+        line->view.segment = any_number(option, next), line->view.one = 1;
+    return 1;
+}
+
 static struct line read_line(const struct command *c, int count, char **words)
 {
-    struct line line = {.words = memory((size_t)count * sizeof *line.words)};
-    int plain = 0;
+    struct line line = {.view = {.array = 1}, .words = memory((size_t)count * sizeof *line.words)};
+    int plain = 0, taken;
     for (int i = 0; i < count; i++) {
         if (plain || !is_option(words[i])) {
             if (line.count == c->most)
@@ -155,12 +135,8 @@ static struct line read_line(const struct command *c, int count, char **words)
             line.words[line.count++] = words[i];
         } else if (is(words[i], "--"))
             plain = 1;
-        else if (is(words[i], "--csv") && c->options & CSV)
-            line.csv = 1;
-        else if (is(words[i], "--digits") && c->options & DIGITS)
-            line.digits = digits(++i < count ? words[i] : NULL);
-        else if (is(words[i], "-f") && c->options & FORCE)
-            line.replace = 1;
+        else if (read_option(c, &line, words[i], i + 1 < count ? words[i + 1] : NULL, &taken))
+            i += taken;
         else
             fail(USAGE, "%s is not known to %s; trace --help tells how it is called", words[i], c->name);
     }
@@ -187,6 +163,11 @@ static void run_cross(const struct line *line)
     double at = level(line->words[1]);
     uint32_t array = line->count > 2 ? number(line->words[2]) : 1, segment = line->count > 3 ? number(line->words[3]) : 1;
     print_crossings(line->words[0], at, array, line->count > 3 ? &segment : NULL, (struct form){line->csv, line->digits});
+}
+
+static void run_draw(const struct line *line)
+{
+    draw(line->words[0], line->count > 1 ? line->words[1] : NULL, line->replace, line->view);
 }
 
 static uint32_t order(const char *word)
@@ -242,6 +223,7 @@ static const struct command commands[] = {
     {"show", "one FILE", 1, 1, DIGITS, run_show},
     {"points", "FILE [ARRAY [SEGMENT]]", 1, 3, CSV | DIGITS, run_points},
     {"cross", "FILE LEVEL [ARRAY [SEGMENT]]", 2, 4, CSV | DIGITS, run_cross},
+    {"draw", "FILE [OUT]", 1, 2, FORCE | VIEW, run_draw},
     {"cut", "FILE OUT SP NP FP SN hi|lo", 7, 7, FORCE, run_cut},
     {"join", "OUT FILE..", 2, ANY, FORCE, run_join},
     {"combined", "SP NP FP SN C for each cut", 1, ANY, 0, run_combined},

@@ -2,7 +2,7 @@
  * Why files cannot be joined: all that stands in the way, a line each. The library has judged; this looks again at what
  * a join asks for, for the message alone, and decides nothing.
  */
-#include "host.h"
+#include "join.h"
 #include "tessarquin.h"
 
 #include <stdlib.h>

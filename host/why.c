@@ -35,7 +35,8 @@ static void found_in_question(FILE *to, const struct opened *o, struct asked ask
         fprintf(to, "it has %s, and segment %s was asked for", counted(o->segments, "segment"), grouped(asked.segment));
         break;
     case TESSARQUIN_POINT:
-        fprintf(to, "a segment has %s, from 0 on, and point %s was asked for", counted(o->points, "point"), grouped(asked.point));
+        if (asked.point >= o->points)
+            fprintf(to, "a segment has %s, from 0 on, and point %s was asked for", counted(o->points, "point"), grouped(asked.point));
         break;
     case TESSARQUIN_SPARSE:
         fprintf(to, "SP %s and S %s are too much together", grouped(asked.sp), grouped(o->sparsing));

@@ -1,5 +1,6 @@
 /* Texts and whole numbers for a person, and the names that the template has for the numbers of its enums. */
 #include "host.h"
+#include "tessarquin.h"
 
 #include <stdio.h>
 #include <string.h>
@@ -60,6 +61,17 @@ void write_unit(FILE *to, struct part unit)
         return;
     fputc(' ', to);
     write_text(to, unit.bytes, unit.length);
+}
+
+void write_instrument(FILE *to, const struct opened *o, const char *none)
+{
+    struct part name = text_at(o, TESSARQUIN_AT_INSTRUMENT_NAME, TESSARQUIN_NAME_BYTES);
+    int32_t number = tessarquin_field_long(o->payload + TESSARQUIN_AT_INSTRUMENT_NUMBER, o->order);
+    if (name.length == 0)
+        fputs(none, to);
+    write_text(to, name.bytes, name.length);
+    if (number != 0)
+        fprintf(to, ", number %ld", (long)number);
 }
 
 void write_line(FILE *to, const char *text)

@@ -8,7 +8,7 @@
  * starts at byte 2 + d.
  * Whatever stands before the '#' is for the caller to remove.
  *
- * Eleven calls, each proved to meet its description for every input:
+ * Twelve calls, each proved to meet its description for every input:
  *
  *     tessarquin_open       is this a block that obeys the template, and what is in it?
  *     tessarquin_layout     where do the descriptor and the other parts stand?
@@ -17,6 +17,7 @@
  *     tessarquin_point      one point, in volts and seconds, and whether its sample stands at the rail
  *     tessarquin_fill       all the points of a segment, in volts, and how many samples stand at the rail
  *     tessarquin_crossing   the first point of a segment at or above a level, or that there is none
+ *     tessarquin_strip      a segment in so many columns, to be drawn: the least and the greatest sample of each
  *     tessarquin_cut        a smaller block: some segments, every so many-th point, in either byte order
  *     tessarquin_combined   the setup of the one cut that stands for two cuts, or for any number of them
  *     tessarquin_join       one block of the segments that were fetched one by one, in whatever order they arrived
@@ -27,8 +28,9 @@
  *   - A call takes any bytes and any numbers, and ends. It checks the block that it is lent anew each time.
  *   - It returns 0, or the number of its refusal: the first rule broken, in the order of TESSARQUIN_REFUSALS.
  *     A refused call writes nothing. tessarquin_text has the refusal in words.
- *   - Answers are numbers of eight bytes, the high byte first. tessarquin_number, tessarquin_double and
- *     tessarquin_doubles read them; each number of an answer has a name. Behind the answer a slice keeps what it held.
+ *   - Answers are numbers of eight bytes, the high byte first. tessarquin_number, tessarquin_signed,
+ *     tessarquin_double and tessarquin_doubles read them; each number of an answer has a name. Behind the answer a slice
+ *     keeps what it held.
  *   - There is no state, no allocation and no system call: any thread may call, also at the same time on one block.
  *   - A slice is a pointer and the bytes behind it. A pointer is never null, also where the length is 0. The slices of
  *     one call do not overlap, and no other thread writes to them during the call.
@@ -61,11 +63,11 @@ extern "C" {
 /* The version of these calls. Below 1.0 the second number moves where a call takes or answers something else, and where
    one is added. Since 0.2 tessarquin_point answers 24 bytes (16 before), and tessarquin_fill eight bytes behind its M
    values: whoever fills segments back to back leaves room for them. Since 0.3 there is tessarquin_join, with the refusal
-   16, since 0.4 tessarquin_combined, since 0.5 tessarquin_narrow, with the refusal 19, and since 0.6 tessarquin_crossing;
-   what was there before is as it was. Header and archive have to be of one version. */
+   16, since 0.4 tessarquin_combined, since 0.5 tessarquin_narrow, with the refusal 19, since 0.6 tessarquin_crossing, and
+   since 0.7 tessarquin_strip; what was there before is as it was. Header and archive have to be of one version. */
 #define TESSARQUIN_VERSION_MAJOR 0
-#define TESSARQUIN_VERSION_MINOR 6
-#define TESSARQUIN_VERSION "0.6"
+#define TESSARQUIN_VERSION_MINOR 7
+#define TESSARQUIN_VERSION "0.7"
 
 /*
  * Why a call is refused, in the order of the checks: the first that applies is the number returned. Each entry is the
@@ -95,8 +97,8 @@ extern "C" {
       "ask for one that is there, or for a finite level")                                                              \
     X(SEGMENT, 10, "there is no such segment",                                                                         \
       "ask for one that is there, from 1 on, or have a cut keep all by 0")                                             \
-    X(POINT, 11, "there is no such point in a segment",                                                                \
-      "ask for one that is there, from 0 on")                                                                          \
+    X(POINT, 11, "there is no such point in a segment, or the columns are none or more than its points",               \
+      "ask for a point that is there, from 0 on, or for 1 to M columns")                                               \
     X(SPARSE, 12, "SP times what was thinned before is above 268,435,455, or a combined FP does not fit 32 bits",      \
       "cut with a smaller SP: its product with SPARSING_FACTOR has to be 268,435,455 or below")                        \
     X(JOIN, 16, "the parts are not the segments 1 to n, at most 1,000, of one trace, or together they are no block",   \
@@ -312,6 +314,53 @@ uint32_t tessarquin_crossing(const uint8_t *block, size_t block_len,
                              uint32_t array, uint32_t segment, double level,
                              uint8_t *answer, size_t answer_len);
 
+/* The numbers that tessarquin_strip answers. */
+enum tessarquin_strip_number {
+    TESSARQUIN_STRIP_SUM,   /* the sum of all M samples, which may be below zero: tessarquin_signed reads it */
+    TESSARQUIN_STRIP_MARKS, /* how many of them stand at the rail, from 0 to M */
+    TESSARQUIN_STRIP_PEAK   /* the first point that holds the greatest sample, from 0 to M-1 */
+};
+#define TESSARQUIN_STRIP_BYTES 24u
+
+/* How many bytes the leasts of so many columns take, and the greatests. */
+#define TESSARQUIN_COLUMN_BYTES(columns) ((size_t)(columns) * 8u)
+
+/*
+ * A segment in `columns` columns, W of them, from 1 to M, to be drawn: refusals 1 to 8, 20, 9 and 10, 11 for no columns
+ * or more than M, then 13 if least_len or greatest_len is below TESSARQUIN_COLUMN_BYTES(W) or answer_len below
+ * TESSARQUIN_STRIP_BYTES.
+ *
+ * Column q, from 0 to W-1, has the points from floor(q M / W) up to but not including floor((q + 1) M / W): every point
+ * is in exactly one column, and none is empty. Its least sample is number q of `least`, its greatest number q of
+ * `greatest`; tessarquin_signed reads both. The answer has three numbers of the segment as a whole, which do not depend
+ * on W. No spike is lost between two columns: the least of the leasts is the least sample of the segment, and the
+ * greatest of the greatests its greatest.
+ *
+ * All are whole numbers, as the samples are. The value of a sample z is VERTICAL_GAIN times z less VERTICAL_OFFSET, both
+ * read as floats and worked out in double: then it has the bits that tessarquin_point answers. Where the gain is below 0
+ * the least sample has the greatest value.
+ *
+ * A picture of half the width needs no second call: where W is even, the lesser of leasts 2 q and 2 q + 1 is least q of
+ * the strip of W / 2 columns, and likewise the greater of the greatests.
+ *
+ * Segment 1 of array 1 in at most eighty columns:
+ *
+ *     uint8_t open[TESSARQUIN_OPEN_BYTES], least[640], greatest[640], strip[TESSARQUIN_STRIP_BYTES];
+ *     if (tessarquin_open(block, block_len, open, sizeof open) == TESSARQUIN_OK) {
+ *         uint64_t points = tessarquin_number(open, TESSARQUIN_OPEN_POINTS);
+ *         uint32_t columns = points < 80 ? (uint32_t)points : 80;
+ *         if (tessarquin_strip(block, block_len, 1, 1, columns, least, sizeof least, greatest, sizeof greatest, strip,
+ *                              sizeof strip) == TESSARQUIN_OK)
+ *             for (uint32_t q = 0; q < columns; q++)
+ *                 printf("%d to %d\n", (int)tessarquin_signed(least, q), (int)tessarquin_signed(greatest, q));
+ *     }
+ */
+uint32_t tessarquin_strip(const uint8_t *block, size_t block_len,
+                          uint32_t array, uint32_t segment, uint32_t columns,
+                          uint8_t *least, size_t least_len,
+                          uint8_t *greatest, size_t greatest_len,
+                          uint8_t *answer, size_t answer_len);
+
 /* ---- cuts */
 
 /* The numbers that tessarquin_cut answers. */
@@ -510,6 +559,12 @@ static inline uint64_t tessarquin_number(const uint8_t *answer, size_t i)
     const uint8_t *p = answer + 8 * i;
     return (uint64_t)p[0] << 56 | (uint64_t)p[1] << 48 | (uint64_t)p[2] << 40 | (uint64_t)p[3] << 32
          | (uint64_t)p[4] << 24 | (uint64_t)p[5] << 16 | (uint64_t)p[6] << 8 | (uint64_t)p[7];
+}
+
+/* Number i of an answer, or of a strip's leasts or greatests, where it may be below zero. */
+static inline int64_t tessarquin_signed(const uint8_t *answer, size_t i)
+{
+    return (int64_t)tessarquin_number(answer, i);
 }
 
 /* Double i of an answer. */
