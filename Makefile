@@ -1,4 +1,4 @@
-# make host           target/host/trace, the program that shows, prints, searches, cuts, joins and narrows trace files
+# make host           target/host/trace, the program that shows, prints, searches, draws, cuts, joins and narrows trace files
 # make list FILE=..   the numbers and the points of a trace file, by the proved listing program
 # make test           proves every crate from nothing, tries every wrong answer, runs every program and every test
 # make archive        target/staticlib/libtessarquin.a, for a program in C
@@ -57,7 +57,7 @@ target/staticlib/lib%.a: crates.txt $(shell find crates -name '*.rt' -o -name '*
 # Where the machine is not x86-64, `trace` is a script that starts the program by the emulator.
 host: need-c $(ARCHIVE)
 	@mkdir -p target/host
-	@$(CC) $(CFLAGS) $(HOST) $(ARCHIVE) -o target/host/trace$(if $(RUN),.x86-64)
+	@$(CC) $(CFLAGS) $(HOST) $(ARCHIVE) -lm -o target/host/trace$(if $(RUN),.x86-64)
 	@$(if $(RUN),cp host/emulated target/host/trace)
 
 # The programs that the tests of the host program call, each of one file.
@@ -67,8 +67,8 @@ target/host/%: host/tests/%.c host/tests/blocks.h include/tessarquin.h | need-c
 
 # The program that README prints, the lines that the header prints, the calls at the end of a page, the header's readers,
 # the host program (faults.c says which calls go wrong in a second copy of it), and the independent reader.
-checked: WRAPPED := open write fsync close rename renameat2 tessarquin_point tessarquin_fill tessarquin_crossing tessarquin_cut tessarquin_combined tessarquin_join tessarquin_narrow
-checked: need-tests host target/host/made target/host/sample target/host/table target/host/fields
+checked: WRAPPED := open write fsync close rename renameat2 tessarquin_point tessarquin_fill tessarquin_crossing tessarquin_strip tessarquin_cut tessarquin_combined tessarquin_join tessarquin_narrow
+checked: need-tests host target/host/made target/host/sample target/host/table target/host/fields target/host/formed
 	@awk '/^```c$$/ { on = 1; next } /^```$$/ { on = 0 } on' README.md >target/host/first.c
 	@$(CC) $(CFLAGS) target/host/first.c $(ARCHIVE) -o target/host/first
 	@sed -n '/^ \*     uint8_t /,/^ \*     }/s/^ \*     //p' include/tessarquin.h >target/host/printed.h
@@ -78,6 +78,8 @@ checked: need-tests host target/host/made target/host/sample target/host/table t
 	@$(RUN) target/host/calls
 	@$(CC) $(CFLAGS) host/tests/crossings.c $(ARCHIVE) -o target/host/crossings
 	@$(RUN) target/host/crossings
+	@$(CC) $(CFLAGS) host/tests/strips.c $(ARCHIVE) -o target/host/strips
+	@$(RUN) target/host/strips
 	@$(CC) $(CFLAGS) host/tests/chains.c $(ARCHIVE) -o target/host/chains
 	@$(RUN) target/host/chains
 	@$(CC) $(CFLAGS) host/tests/joins.c $(ARCHIVE) -o target/host/joins
@@ -87,7 +89,7 @@ checked: need-tests host target/host/made target/host/sample target/host/table t
 	@$(RUN) target/host/fields
 	@$(CC) $(CFLAGS) -Ihost host/tests/decimals.c host/decimal.c -o target/host/decimals
 	@$(RUN) target/host/decimals
-	@$(CC) $(CFLAGS) $(WRAPPED:%=-Wl,--wrap=%) $(HOST) host/tests/faults.c $(ARCHIVE) -o target/host/faulty
+	@$(CC) $(CFLAGS) $(WRAPPED:%=-Wl,--wrap=%) $(HOST) host/tests/faults.c $(ARCHIVE) -lm -o target/host/faulty
 	@host/tests/run '$(RUN)' target/host crates/listing/stdin
 	@$(MAKE) listed
 	@cargo test -q --lib $(CARGO)

@@ -3,6 +3,7 @@
 
 #include <float.h>
 #include <math.h>
+#include <stdlib.h>
 #include <string.h>
 
 /* ---- powers of ten */
@@ -50,17 +51,22 @@ static int power_for(double size, struct part unit)
     return 3 * (int)floor(power_of(size) / 3.0);
 }
 
-/* A unit may have 48 bytes, and is cut where it would be longer than the picture has room for. */
+/* A unit may have 48 bytes, each of four letters where it is none: it ends where the picture has no more room for it. */
 static void write_short(FILE *to, struct part unit)
 {
-    enum { MOST = 12 };
-    size_t length = unit.length;
+    enum { MOST = 10 };
+    struct told told;
+    FILE *whole = told_to(&told);
+    write_text(whole, unit.bytes, unit.length);
+    told_all(whole);
+    size_t length = told.length;
     if (length > MOST)
-        for (length = MOST; length > 0 && (unit.bytes[length] & 0xC0) == 0x80;)
+        for (length = MOST - 2; (told.text[length] & 0xC0) == 0x80;)
             length--;
-    write_text(to, unit.bytes, length);
-    if (length < unit.length)
+    fwrite(told.text, 1, length, to);
+    if (length < told.length)
         fputs("..", to);
+    free(told.text);
 }
 
 /* ---- the range */
@@ -130,6 +136,15 @@ void put_tick(char *to, const struct axis *axis, int i)
 
 /* ---- numbers with their unit */
 
+/* With at most so many digits behind the point, and no zeros at their end. */
+static void put_fixed(char *to, double x, int decimals)
+{
+    int length = snprintf(to, DECIMAL_MOST, "%.*f", decimals > 0 ? decimals : 0, x);
+    while (decimals > 0 && to[length - 1] == '0' && decimals--)
+        length--;
+    to[length - (to[length - 1] == '.')] = 0;
+}
+
 static void write_plain(FILE *to, double x, struct part unit)
 {
     char number[DECIMAL_MOST + 1];
@@ -145,8 +160,9 @@ void write_axis(FILE *to, const struct axis *axis, const char *name, const char 
     const char *prefix = prefix_of(axis->unit, axis->power, micro);
     fputs(name, to);
     if (axis->base != 0) {
-        fputs(" less ", to);
-        write_plain(to, multiple(axis, axis->base), axis->unit);
+        double base = multiple(axis, axis->base);
+        fputs(base < 0 ? " plus " : " less ", to);
+        write_plain(to, fabs(base), axis->unit);
     }
     if (axis->unit.length == 0 && axis->power == 0)
         return;
@@ -159,15 +175,25 @@ void write_axis(FILE *to, const struct axis *axis, const char *name, const char 
     fputc(')', to);
 }
 
-/* Five digits behind the first one of the span. */
+/* The last digit is the fifth behind the first one of the span, or where the numbers at the ticks are short the sixth of
+   the number, if that comes before. */
+static int last_power(const struct axis *axis, double x)
+{
+    int span = power_of(axis->to / 2 - axis->from / 2) - 5;
+    return axis->base == 0 && x != 0 ? (int)fmax(span, power_of(fabs(x)) - 5) : span;
+}
+
 void write_number(FILE *to, const struct axis *axis, double x, const char *micro)
 {
-    int last = power_of(axis->to / 2 - axis->from / 2) - 5;
+    int last = last_power(axis, x);
     double rounded = last > -300 ? round(x / ten_to(last)) * ten_to(last) + 0.0 : x;
-    int power = axis->base == 0 ? axis->power : power_for(fabs(rounded), axis->unit), digits = rounded == 0 ? 1 : power_of(fabs(rounded)) - last + 1;
+    int power = axis->base == 0 ? axis->power : power_for(fabs(rounded), axis->unit);
     const char *prefix = prefix_of(axis->unit, power, micro);
     char number[DECIMAL_MOST + 1];
-    *put_digits(number, prefix ? rounded / ten_to(power) : rounded, digits < 1 ? 1 : digits > 15 ? 15 : digits) = 0;
+    if (prefix)
+        put_fixed(number, rounded / ten_to(power), power - last);
+    else
+        *put_digits(number, rounded, rounded == 0 ? 1 : power_of(fabs(rounded)) - last + 1) = 0;
     fprintf(to, "%s%s%s", number, axis->unit.length > 0 ? " " : "", prefix ? prefix : "");
     write_short(to, axis->unit);
 }

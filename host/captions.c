@@ -18,13 +18,15 @@ void write_subtitle(FILE *to, const struct drawing *d)
         fprintf(to, ", drawn in %s", counted(d->columns, "column"));
 }
 
-/* Which segment it is, where the file says so, and when it was triggered. */
-int write_segment(FILE *to, const struct drawing *d, const struct panel *panel)
+int is_numbered(const struct drawing *d)
+{
+    return d->o->segments > 1 || d->o->index > 0;
+}
+
+void write_segment(FILE *to, const struct drawing *d, const struct panel *panel)
 {
     const struct opened *o = d->o;
     char number[DECIMAL_MOST + 1];
-    if (o->segments == 1 && o->index == 0)
-        return 0;
     fprintf(to, "segment %s", grouped(o->segments > 1 ? panel->segment : o->index));
     if (o->segments > 1)
         fprintf(to, " of %s", grouped(o->segments));
@@ -32,7 +34,6 @@ int write_segment(FILE *to, const struct drawing *d, const struct panel *panel)
         *put_digits(number, trigger_time(o, panel->segment) + 0.0, 9) = 0;
         fprintf(to, ", %s s after the first trigger", number);
     }
-    return 1;
 }
 
 /* The point that holds the greatest sample has the greatest value, or where the gain is below 0 the least. */

@@ -60,7 +60,7 @@ static struct panel new_panel(const struct drawing *d, uint32_t n)
     return (struct panel){.segment = n, .least = memory(room), .greatest = memory(room), .times = memory((d->columns + 1) * sizeof(double))};
 }
 
-/* From the segment alone in a block. */
+/* From the segment alone in a block. The peak is within the span whatever the times do. */
 static void fill_panel(const struct drawing *d, const struct opened *alone, struct panel *panel)
 {
     uint8_t answer[TESSARQUIN_STRIP_BYTES];
@@ -70,6 +70,7 @@ static void fill_panel(const struct drawing *d, const struct opened *alone, stru
     panel->mean = (double)float_at(d->o, TESSARQUIN_AT_VERTICAL_GAIN) * mean - (double)float_at(d->o, TESSARQUIN_AT_VERTICAL_OFFSET);
     panel->at_rail = tessarquin_number(answer, TESSARQUIN_STRIP_MARKS);
     panel->peak = point_of(alone, d->array, 1, (uint32_t)tessarquin_number(answer, TESSARQUIN_STRIP_PEAK));
+    panel->span = (struct range){fmin(panel->span.from, panel->peak.time), fmax(panel->span.to, panel->peak.time)};
 }
 
 static void free_panels(const struct drawing *d)

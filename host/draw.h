@@ -57,7 +57,7 @@ struct panel {
     uint32_t segment;
     uint8_t *least, *greatest; /* samples, by column */
     double *times;             /* of the first point of each column, and behind them of the last point */
-    struct range span;         /* of these times */
+    struct range span;         /* from the earliest of these times to the latest, with that of the peak */
     struct axis across;
     double mean;
     uint64_t at_rail;
@@ -84,8 +84,10 @@ int is_pointwise(const struct drawing *d);
 void write_label(FILE *to, const struct drawing *d);
 void write_subtitle(FILE *to, const struct drawing *d);
 
-/* Which segment it is, and when it was triggered; nothing, and 0, where there is but one. */
-int write_segment(FILE *to, const struct drawing *d, const struct panel *panel);
+/* Whether segments have numbers, which a trace of one has where it was fetched or cut alone; and which one this is, and
+   when it was triggered. */
+int is_numbered(const struct drawing *d);
+void write_segment(FILE *to, const struct drawing *d, const struct panel *panel);
 
 /* The value and the time of the peak, and the mean; and how many samples stand at the rail. */
 void write_numbers(FILE *to, const struct drawing *d, const struct panel *panel);

@@ -142,11 +142,11 @@ static void put_times(FILE *to, const struct plot *plot, int margin)
     free(numbers);
 }
 
-/* A text in the middle over or under the letter `at`, but no further left than the line's start. */
-static void put_centred(FILE *to, FILE *from, struct told *told, int at)
+/* A text of which so many halves stand before the letter `at`, but none before the line's start. */
+static void put_about(FILE *to, FILE *from, struct told *told, int halves, int at)
 {
     told_all(from);
-    int before = at - (int)told->length / 2;
+    int before = at - (int)told->length * halves / 2;
     fprintf(to, "%*s%s\n", before > 0 ? before : 0, "", told->text);
     free(told->text);
 }
@@ -154,8 +154,10 @@ static void put_centred(FILE *to, FILE *from, struct told *told, int at)
 static void put_words(FILE *to, const struct plot *plot, int margin)
 {
     struct told told;
-    if (write_segment(to, plot->d, plot->panel))
+    if (is_numbered(plot->d)) {
+        write_segment(to, plot->d, plot->panel);
         fputc('\n', to);
+    }
     write_numbers(to, plot->d, plot->panel);
     fputs("\n\n", to);
     write_axis(to, &plot->d->up, "value", plot->d->micro);
@@ -163,8 +165,7 @@ static void put_words(FILE *to, const struct plot *plot, int margin)
     int side = side_of_trigger(plot->panel);
     FILE *text = told_to(&told);
     write_trigger(text, plot->d, plot->panel);
-    fflush(text);
-    put_centred(to, text, &told, margin + 2 + (side == 0 ? letter_of(plot, 0) : side > 0 ? (int)plot->width : 0));
+    put_about(to, text, &told, side + 1, margin + 2 + (side == 0 ? letter_of(plot, 0) : side > 0 ? (int)plot->width : 0));
 }
 
 static void put_panel(FILE *to, const struct plot *plot, int margin)
@@ -177,7 +178,7 @@ static void put_panel(FILE *to, const struct plot *plot, int margin)
     put_times(to, plot, margin);
     FILE *text = told_to(&told);
     write_axis(text, &plot->panel->across, "time", plot->d->micro);
-    put_centred(to, text, &told, margin + 2 + (int)plot->width / 2);
+    put_about(to, text, &told, 1, margin + 2 + (int)plot->width / 2);
     if (plot->panel->at_rail > 0) {
         fprintf(to, "%c ", AT_RAIL);
         write_rail(to, plot->d, plot->panel);

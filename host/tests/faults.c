@@ -12,13 +12,14 @@
  *     links      a file system with links, but without the rename that replaces nothing
  *     between    both: OUT comes to be on such a file system
  *     swapped    a file stands where a pipe did, just before it is opened
- *     count      tells at the end how many points, fills, crossings, cuts and narrowings were asked of blocks of more than
- *                1,000 bytes
+ *     count      tells at the end how many points, fills, crossings, strips, cuts and narrowings were asked of blocks of more
+ *                than 1,000 bytes
  *     uncrossed  a crossing is refused by 9, whatever the array and the level are
+ *     undrawn    a strip is refused by 11, whatever the columns are
  *     uncombined two cuts are refused by 12, whatever their numbers are
  *     unjoined   a join is refused by 16, whatever the parts are
  *     unnarrowed a narrowing is refused by 19, whatever the gain is
- *     unasked    a crossing, a join, two cuts, and a narrowing are refused by 13, though there is room
+ *     unasked    a crossing, a strip, a join, two cuts, and a narrowing are refused by 13, though there is room
  */
 #define _GNU_SOURCE
 #include "tessarquin.h"
@@ -43,6 +44,9 @@ uint32_t __real_tessarquin_fill(const uint8_t *block, size_t block_len, uint32_t
                                 size_t answer_len);
 uint32_t __real_tessarquin_crossing(const uint8_t *block, size_t block_len, uint32_t array, uint32_t segment, double level,
                                     uint8_t *answer, size_t answer_len);
+uint32_t __real_tessarquin_strip(const uint8_t *block, size_t block_len, uint32_t array, uint32_t segment, uint32_t columns,
+                                 uint8_t *least, size_t least_len, uint8_t *greatest, size_t greatest_len, uint8_t *answer,
+                                 size_t answer_len);
 uint32_t __real_tessarquin_cut(const uint8_t *block, size_t block_len, uint32_t sp, uint32_t np, uint32_t fp, uint32_t sn,
                                uint32_t order, uint8_t *out, size_t out_len, uint8_t *answer, size_t answer_len);
 uint32_t __real_tessarquin_combined(uint32_t spa, uint32_t npa, uint32_t fpa, uint32_t sna, uint32_t spb, uint32_t npb,
@@ -157,6 +161,18 @@ uint32_t __wrap_tessarquin_crossing(const uint8_t *block, size_t block_len, uint
     if (fault("unasked"))
         return TESSARQUIN_ROOM;
     return __real_tessarquin_crossing(block, block_len, array, segment, level, answer, answer_len);
+}
+
+uint32_t __wrap_tessarquin_strip(const uint8_t *block, size_t block_len, uint32_t array, uint32_t segment, uint32_t columns,
+                                 uint8_t *least, size_t least_len, uint8_t *greatest, size_t greatest_len, uint8_t *answer,
+                                 size_t answer_len)
+{
+    ask(block_len);
+    if (fault("undrawn"))
+        return TESSARQUIN_POINT;
+    if (fault("unasked"))
+        return TESSARQUIN_ROOM;
+    return __real_tessarquin_strip(block, block_len, array, segment, columns, least, least_len, greatest, greatest_len, answer, answer_len);
 }
 
 uint32_t __wrap_tessarquin_cut(const uint8_t *block, size_t block_len, uint32_t sp, uint32_t np, uint32_t fp, uint32_t sn,

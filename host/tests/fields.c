@@ -119,6 +119,17 @@ static void test_texts(void)
     check(tessarquin_field_text_length((const uint8_t *)"", 1) == 0, "an empty text", "it has bytes");
 }
 
+static void test_signed(void)
+{
+    static const int64_t numbers[] = {0, 1, -1, -32768, 32767, -274877906944, 274869518336, INT64_MIN, INT64_MAX};
+    uint8_t answer[sizeof numbers];
+    size_t count = sizeof numbers / sizeof *numbers;
+    for (size_t i = 0; i < count; i++)
+        put(answer + 8 * i, TESSARQUIN_HIFIRST, 8, (uint64_t)numbers[i]);
+    for (size_t i = 0; i < count; i++)
+        check(tessarquin_signed(answer, i) == numbers[i], "a signed number of an answer", "it is read as another");
+}
+
 static void test_answers(void)
 {
     static const double doubles[3] = {-1.75, 3e8, -0.0};
@@ -162,6 +173,7 @@ int main(void)
     test_floats(TESSARQUIN_HIFIRST);
     test_floats(TESSARQUIN_LOFIRST);
     test_texts();
+    test_signed();
     test_answers();
     test_refusals();
     printf("fields: %u checks held\n", checked);

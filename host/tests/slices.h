@@ -148,6 +148,15 @@ static inline uint32_t crossing(struct slice block, uint32_t array, uint32_t seg
     return refusal;
 }
 
+/* A strip to two slices, which the caller gives back. */
+static inline uint32_t strip(struct slice block, uint32_t array, uint32_t segment, uint32_t columns, struct slice least, struct slice greatest, size_t room)
+{
+    struct slice answer = lend(room);
+    uint32_t refusal = tessarquin_strip(block.bytes, block.length, array, segment, columns, least.bytes, least.length, greatest.bytes, greatest.length, answer.bytes, room);
+    take(answer, refusal, 3);
+    return refusal;
+}
+
 /* A cut to a slice of `room` bytes, which the caller gives back. */
 static inline uint32_t cut(struct slice block, const uint32_t *setup, uint32_t order, struct slice out, size_t room)
 {
