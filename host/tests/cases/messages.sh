@@ -124,9 +124,10 @@ refused 20 "$backwards" "$folder/damaged" show "$folder/damaged"
 refused 20 "$backwards" "$folder/damaged" points "$folder/damaged"
 refused 20 "$backwards" "$folder/damaged" points "$folder/damaged" 1 1
 refused 20 "$backwards" "$folder/damaged" cross "$folder/damaged" inf 3 9
+refused 20 "$backwards" "$folder/damaged" draw "$folder/damaged" "$folder/none" --array 3 --segment 9
 refused 20 "$backwards" "$folder/damaged" cut "$folder/damaged" "$folder/none" 1 0 0 1 hi
 refused 20 "$backwards" "$folder/damaged" narrow "$folder/damaged" "$folder/none"
-[ ! -e "$folder/none" ] || wrong 'a refused sequence was cut or narrowed'
+[ ! -e "$folder/none" ] || wrong 'a refused sequence was drawn, cut or narrowed'
 said=$($run "$programs/first" <"$folder/damaged" || true)
 [ "$said" = "refused: a TRIGGER_TIME is less than the one before it; $(to_do 20)" ] || wrong "the first program says of a damaged sequence: $said"
 
@@ -142,6 +143,11 @@ refused 9 'the level is not a number' "a crossing of $example" cross "$example" 
 refused 9 'it has 1 array, and array 0 was asked for, and the level is infinite' "a crossing of $example" cross "$example" inf 0
 refused 10 'it has 3 segments, and segment 4 was asked for' "a crossing of $sample" cross "$sample" 1 1 4
 refused 10 'it has 3 segments, and segment 0 was asked for' "a crossing of $sample" cross --csv "$sample" 1 1 0
+refused 9 'it has 1 array, and array 2 was asked for' "a picture of $example" draw "$example" "$folder/none" --array 2 --segment 9
+refused 9 'it has 1 array, and array 0 was asked for' "a picture of $example" draw "$example" --array 0 --text
+refused 10 'it has 3 segments, and segment 4 was asked for' "a picture of $sample" draw "$sample" --segment 4
+refused 10 'it has 3 segments, and segment 0 was asked for' "a picture of $sample" draw "$sample" "$folder/none" --segment 0 --width 1
+[ ! -e "$folder/none" ] || wrong 'a refused picture was written'
 refused 10 'it has 3 segments, and segment 0 was asked for' "a point of $sample" points --csv "$sample" 1 0
 refused 10 'it has 3 segments, and segment 4 was asked for' "a cut of $sample" cut "$sample" "$folder/none" 1 0 0 4 hi
 refused 11 'a segment has 16 points, from 0 on, and point 16 was asked for' "a cut of $sample" cut "$sample" "$folder/none" 1 0 16 0 hi

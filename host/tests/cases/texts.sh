@@ -1,15 +1,15 @@
 # What the program says of itself, what README prints, the starter for other machines, and what the makefile says is
 # missing.
 
-expect 0 'trace 0.6: reads LECROY_2_3 waveform files' --help
+expect 0 'trace 0.7: reads LECROY_2_3 waveform files' --help
 cp "$folder/out" "$folder/help"
-for words in 'show --help' 'points --help' 'cross --help' 'cut --help' 'join --help' 'combined --help' 'narrow --help' '--help show'; do
+for words in 'show --help' 'points --help' 'cross --help' 'draw --help' 'cut --help' 'join --help' 'combined --help' 'narrow --help' '--help show'; do
     asked $words
     [ "$got" = 0 ] || wrong "trace $words: status $got"
     same "$folder/out" "$folder/help" "trace $words says something else"
 done
-expect 0 'trace 0.6' --version
-expect 0 'trace 0.6' --version x
+expect 0 'trace 0.7' --version
+expect 0 'trace 0.7' --version x
 expect 2 'trace: nothing was asked; trace --help tells how it is called'
 expect 2 'trace: shw is not known; trace --help tells how it is called' shw "$sample"
 expect 2 'trace: an empty word is not known; trace --help tells how it is called' ''
