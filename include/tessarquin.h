@@ -326,33 +326,33 @@ enum tessarquin_strip_number {
 #define TESSARQUIN_COLUMN_BYTES(columns) ((size_t)(columns) * 8u)
 
 /*
- * A segment in `columns` columns, W of them, from 1 to M, to be drawn: refusals 1 to 8, 20, 9 and 10, 11 for no columns
- * or more than M, then 13 if least_len or greatest_len is below TESSARQUIN_COLUMN_BYTES(W) or answer_len below
- * TESSARQUIN_STRIP_BYTES.
+ * A segment in `columns` columns, W of them, to be drawn: refusals 1 to 8, 20, 9 and 10, 11 if W is 0 or above M, then 13
+ * if least_len or greatest_len is below TESSARQUIN_COLUMN_BYTES(W) or answer_len below TESSARQUIN_STRIP_BYTES.
  *
  * Column q, from 0 to W-1, has the points from floor(q M / W) up to but not including floor((q + 1) M / W): every point
- * is in exactly one column, and none is empty. Its least sample is number q of `least`, its greatest number q of
- * `greatest`; tessarquin_signed reads both. The answer has three numbers of the segment as a whole, which do not depend
- * on W. No spike is lost between two columns: the least of the leasts is the least sample of the segment, and the
- * greatest of the greatests its greatest.
+ * is in exactly one column, and no column is empty. Its least sample is number q of `least`, its greatest is number q of
+ * `greatest`, and tessarquin_signed reads both. No spike is lost between two columns: the least of the leasts is the
+ * least sample of the segment, and the greatest of the greatests is its greatest. A column has a sample at the rail where
+ * its least is the lowest number of the type, or its greatest the highest.
  *
- * All are whole numbers, as the samples are. The value of a sample z is VERTICAL_GAIN times z less VERTICAL_OFFSET, both
- * read as floats and worked out in double: then it has the bits that tessarquin_point answers. Where the gain is below 0
- * the least sample has the greatest value.
+ * The answer has three numbers of the segment as a whole, which do not depend on W. All numbers here are whole, as the
+ * samples are: the value of a sample z is VERTICAL_GAIN times z less VERTICAL_OFFSET, both read as floats and worked out in
+ * double, and then it has the bits that tessarquin_point answers. Where the gain is below 0, the least sample has the
+ * greatest value. The mean of the values is VERTICAL_GAIN times (sum / M) less VERTICAL_OFFSET. The time of a column is
+ * that of its first point.
  *
  * A picture of half the width needs no second call: where W is even, the lesser of leasts 2 q and 2 q + 1 is least q of
- * the strip of W / 2 columns, and likewise the greater of the greatests.
+ * the strip of W / 2 columns, the greater of greatests 2 q and 2 q + 1 is its greatest q, and its answer is the same. Of a
+ * block with very many segments each call judges the trigger times of all, as said at tessarquin_point. host/draw.c makes
+ * pictures of strips.
  *
- * Segment 1 of array 1 in at most eighty columns:
+ * For segment 1 of array 1, in four columns:
  *
- *     uint8_t open[TESSARQUIN_OPEN_BYTES], least[640], greatest[640], strip[TESSARQUIN_STRIP_BYTES];
- *     if (tessarquin_open(block, block_len, open, sizeof open) == TESSARQUIN_OK) {
- *         uint64_t points = tessarquin_number(open, TESSARQUIN_OPEN_POINTS);
- *         uint32_t columns = points < 80 ? (uint32_t)points : 80;
- *         if (tessarquin_strip(block, block_len, 1, 1, columns, least, sizeof least, greatest, sizeof greatest, strip,
- *                              sizeof strip) == TESSARQUIN_OK)
- *             for (uint32_t q = 0; q < columns; q++)
- *                 printf("%d to %d\n", (int)tessarquin_signed(least, q), (int)tessarquin_signed(greatest, q));
+ *     uint8_t least[TESSARQUIN_COLUMN_BYTES(4)], greatest[TESSARQUIN_COLUMN_BYTES(4)], strip[TESSARQUIN_STRIP_BYTES];
+ *     if (tessarquin_strip(block, block_len, 1, 1, 4, least, sizeof least, greatest, sizeof greatest, strip, sizeof strip) == TESSARQUIN_OK) {
+ *         for (size_t q = 0; q < 4; q++)
+ *             printf("from %d to %d\n", (int)tessarquin_signed(least, q), (int)tessarquin_signed(greatest, q));
+ *         printf("greatest at point %u\n", (unsigned)tessarquin_number(strip, TESSARQUIN_STRIP_PEAK));
  *     }
  */
 uint32_t tessarquin_strip(const uint8_t *block, size_t block_len,
