@@ -17,7 +17,7 @@ struct axis {
     int64_t base; /* the multiple that they are written from: 0, but where the numbers would be long */
 };
 
-/* An axis over this range with at most so many ticks, at least two. */
+/* An axis over this range with at most so many ticks, which are two or more. */
 struct axis axis_over(struct range range, struct part unit, int most);
 
 /* The range, or where it is so narrow that its ends cannot be told apart, `around` to both sides of it; where that is

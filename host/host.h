@@ -226,8 +226,7 @@ struct lines lines_of(const struct opened *o, uint32_t n, struct form form);
 void print_point(const struct lines *lines, uint32_t k, const uint8_t *answer);
 void print_none(const struct lines *lines);
 
-/* ---- help.c: how the program is called */
-
+/* ---- help.c: how the program is called, in words */
 extern const char help[];
 
 /* ---- show.c, rail.c, points.c, cross.c, join.c, combined.c, narrow.c: the commands */

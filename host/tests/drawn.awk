@@ -1,5 +1,6 @@
 # What a picture of `trace draw` shows, worked out from its places and from the numbers at its ticks: for each panel a line
-# for each column (panel, column, least, greatest), and a line `panel` with the panel, the columns, how many of them are at
+# for each column (panel, column, least, greatest, and the time of its point, of its middle where it is a line, or of its
+# left edge where it is a step), and a line `panel` with the panel, the columns, how many of them are at
 # the rail, the time of the trigger's line or `none`, the peak's time and value or `none`, and by how much a number may be
 # off, which is a fiftieth of a unit of the picture: first of the values, then of the times.
 
@@ -25,31 +26,35 @@ function words() { sub(/<\/text>$/, ""); sub(/^<text[^>]*>/, ""); return $0 }
 function value(y) { return by_value * (number["v", 1] + (y - place["v", 1]) * (number["v", ticks["v"]] - number["v", 1]) / (place["v", ticks["v"]] - place["v", 1])) }
 function time(x) { return by_time * (number["t", 1] + (x - place["t", 1]) * (number["t", ticks["t"]] - number["t", 1]) / (place["t", ticks["t"]] - place["t", 1])) }
 
-function column(q, one, other) { top[q] = one < other ? one : other; bottom[q] = one > other ? one : other }
+function column(x, one, other) {
+    left[columns] = x
+    top[columns] = one < other ? one : other
+    bottom[columns++] = one > other ? one : other
+}
 
 # The heights of the columns, in each of the three forms
 function read_points(text,    i, n, part) {
     n = split(text, part, " ")
-    for (i = 2; i <= n; i += 2)
-        column(columns++, part[i], part[i])
+    for (i = 1; i < n; i += 2)
+        column(part[i], part[i + 1], part[i + 1])
 }
 
-function read_uprights(text,    i, n, part, two) {
+function read_uprights(text,    i, n, part, three) {
     n = split(text, part, /[ML]/)
     for (i = 2; i <= n; i++) {
-        split(part[i], two, /[ V]/)
-        column(columns++, two[2], two[3])
+        split(part[i], three, /[ V]/)
+        column(three[1], three[2], three[3])
     }
 }
 
-function read_steps(text,    i, n, part) {
-    sub(/^M[0-9.]+ /, "V", text)
+function read_steps(text,    i, n, part, two) {
     sub(/Z$/, "", text)
-    n = split(text, part, /H[0-9.]+V?/) - 1
-    sub(/^V/, "", part[1])
-    columns = n / 2
-    for (i = 1; i <= columns; i++)
-        column(i - 1, part[i], part[n + 1 - i])
+    n = split(substr(text, 2), part, /[HV]/)
+    split(part[1], two, " ")
+    part[0] = two[1]
+    part[1] = two[2]
+    for (i = 0; i < n / 2; i += 2)
+        column(part[i], part[i + 1], part[n - 1 - i])
 }
 
 /^<g class="panel">$/ { panel++; columns = rail = 0; trigger = peak = "none"; ticks["t"] = ticks["v"] = 0 }
@@ -72,7 +77,7 @@ axis != "" && /^<text/ {
 /^<circle class="peak"/ { peak = time(attribute("cx")) " " value(attribute("cy")) }
 /^<\/g>$/ && axis == "" && columns > 0 {
     for (q = 0; q < columns; q++)
-        printf "%d %d %.9g %.9g\n", panel, q, value(bottom[q]), value(top[q])
+        printf "%d %d %.9g %.9g %.9g\n", panel, q, value(bottom[q]), value(top[q]), time(left[q])
     printf "panel %d %d %d %s %s %.9g %.9g\n", panel, columns, rail, trigger, peak, (value(0) - value(1)) / 50, (time(1) - time(0)) / 50
     columns = 0
 }

@@ -19,7 +19,7 @@ done
 # columns SIGN WIDTH: what drawn.awk works out of a picture, from what `trace points` prints; the gain has this sign
 columns() {
     awk -v sign="$1" -v width="$2" '
-        function close_panel(    q, from, to, k, least, greatest, marked, rail, peak) {
+        function close_panel(    q, from, to, k, least, greatest, marked, rail, peak, behind) {
             width_now = width < points ? width : points
             for (q = 0; q < width_now; q++) {
                 from = int(q * points / width_now); to = int((q + 1) * points / width_now)
@@ -30,7 +30,8 @@ columns() {
                     if (mark[k]) marked = 1
                 }
                 rail += marked
-                print panel, q, least, greatest
+                behind = to < points ? at[to] : at[points - 1]
+                print panel, q, least, greatest, (width_now == points || width_now < 720 ? at[from] : (at[from] + behind) / 2)
             }
             for (k = 1; k < points; k++) if (sign * value[k] > sign * value[peak + 0]) peak = k
             print "panel", panel, width_now, rail + 0, (at[0] <= 0 && at[points - 1] >= 0 ? 0 : "none"), (sign ? at[peak + 0] " " value[peak + 0] : "none")
@@ -56,7 +57,7 @@ shows() {
             for (which in right) {
                 split(right[which], a, " "); n = split(shown[which], b, " ")
                 off = a[1] == "panel" ? values[a[2]] : values[a[1]]
-                if (a[1] != "panel") same = near(a[3], b[3], off) && near(a[4], b[4], off)
+                if (a[1] != "panel") same = near(a[3], b[3], off) && near(a[4], b[4], off) && near(a[5], b[5], times[a[1]])
                 else same = a[3] == b[3] && a[4] == b[4] && near(a[5], b[5], times[a[2]]) && near(a[6], b[6], times[a[2]]) && (a[6] == "none" || near(a[7], b[7], off))
                 if (!same) { print right[which] " is shown as " shown[which]; exit 1 }
             }

@@ -48,6 +48,11 @@ for shape in '0 0' '0 1' '1 0' '1 1'; do
     $run "$programs/made" "$order" "$type" 1 5000 0 >one
     for width in 1 2 10 72 500; do lettered "$width" one; done
 done
+for type in 0 1; do
+    $run "$programs/made" 0 "$type" 1 5000 0 >one
+    patched one 180 '\300\162\300\0\0\0\0\0'
+    for width in 9 72 500; do lettered "$width" "$folder/damaged"; done
+done
 # of fewer points each is at its time, and between two stands a line of dots
 asked draw --text "$sample" --segment 2
 plain 'the sample'
