@@ -43,7 +43,8 @@ static const char *prefix_of(struct part unit, int power, const char *micro)
     return takes_prefix(unit) && power % 3 == 0 && power >= -15 && power <= 12 ? prefixes[power / 3 + 5] : NULL;
 }
 
-/* The power of ten in which a number of this size is short. Without a prefix it stands beside it, and is left out longer. */
+/* The power of ten in which a number of this size is short. One that is no prefix takes room itself: then a number is
+   written without it as long as it has a few digits. */
 static int power_for(double size, struct part unit)
 {
     if (size == 0 || (!takes_prefix(unit) && size >= 0.01 && size < 100000))
@@ -51,7 +52,7 @@ static int power_for(double size, struct part unit)
     return 3 * (int)floor(power_of(size) / 3.0);
 }
 
-/* A unit may have 48 bytes, each of four letters where it is none: it ends where the picture has no more room for it. */
+/* A unit may have 48 bytes, and a byte that is no letter takes four: what the picture has no room for is cut off. */
 static void write_short(FILE *to, struct part unit)
 {
     enum { MOST = 10 };
@@ -139,7 +140,8 @@ void put_tick(char *to, const struct axis *axis, int i)
 /* With at most so many digits behind the point, and no zeros at their end. */
 static void put_fixed(char *to, double x, int decimals)
 {
-    int length = snprintf(to, DECIMAL_MOST, "%.*f", decimals > 0 ? decimals : 0, x);
+    snprintf(to, DECIMAL_MOST, "%.*f", decimals > 0 ? decimals : 0, x);
+    size_t length = strlen(to);
     while (decimals > 0 && to[length - 1] == '0' && decimals--)
         length--;
     to[length - (to[length - 1] == '.')] = 0;

@@ -155,9 +155,11 @@ void draw(const char *name, const char *to, int replace, struct view view)
     struct opened o = open_block(read_block(name));
     uint32_t width = view.width ? view.width : view.text ? LETTERS : COLUMNS;
     uint32_t first = view.one ? view.segment : 1, count = view.one ? 1 : o.segments;
-    struct drawing d = {.o = &o, .array = view.array, .columns = width < o.points ? width : o.points, .count = count, .micro = view.text ? "u" : "\302\265"};
+    struct drawing d = {.o = &o, .array = view.array, .columns = width < o.points ? width : o.points, .count = count,
+                        .micro = view.text ? "u" : "\302\265"};
     if (count > PANELS_MOST)
-        fail(REFUSED, "a picture takes at most %d segments, and %s has %s: choose one by --segment", PANELS_MOST, o.block.file.name, grouped(count));
+        fail(REFUSED, "a picture takes at most %d segments, and %s has %s: choose one by --segment", PANELS_MOST,
+             o.block.file.name, grouped(count));
     fill_drawing(&d, first);
     put_axes(&d, view.text ? letter_ticks(width) : 11, view.text ? 5 : count > 3 ? 6 : 8);
     write_drawing(&d, to, replace, width, view.text);

@@ -213,8 +213,9 @@ static double height_of(uint32_t panels)
 void write_picture(FILE *to, const struct drawing *d)
 {
     double high = height_of(d->count), panel = ABOVE + high + BELOW, all = HEAD + d->count * panel;
-    fprintf(to, "<svg xmlns=\"http://www.w3.org/2000/svg\" width=\"%d\" height=\"%g\" viewBox=\"0 0 %d %g\" font-family=\"sans-serif\" font-size=\"12\" fill=\"" INK "\">\n",
+    fprintf(to, "<svg xmlns=\"http://www.w3.org/2000/svg\" width=\"%d\" height=\"%g\" viewBox=\"0 0 %d %g\"",
             LEFT + WIDE + RIGHT, all, LEFT + WIDE + RIGHT, all);
+    fputs(" font-family=\"sans-serif\" font-size=\"12\" fill=\"" INK "\">\n", to);
     write_heading(to, d);
     for (uint32_t i = 0; i < d->count; i++) {
         struct place at = {d, &d->panels[i], HEAD + i * panel + ABOVE, high};

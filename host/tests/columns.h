@@ -9,6 +9,7 @@ struct samples {
     int64_t *of;
     size_t points;
     int64_t low, high; /* the lowest and the highest number of their type */
+    double gain, offset;
 };
 
 static inline struct samples samples_of(struct slice b, uint32_t array, uint32_t segment)
@@ -17,7 +18,8 @@ static inline struct samples samples_of(struct slice b, uint32_t array, uint32_t
     uint64_t at = answers[TESSARQUIN_LAYOUT_START] + answers[TESSARQUIN_LAYOUT_STARTS + TESSARQUIN_PART_ARRAY_1 + array - 1];
     const uint8_t *head = b.bytes + answers[TESSARQUIN_LAYOUT_START];
     uint64_t order = head[TESSARQUIN_AT_COMM_ORDER], words = (uint64_t)tessarquin_field_word(head + TESSARQUIN_AT_COMM_TYPE, order);
-    struct samples s = {malloc(h.points * sizeof *s.of), h.points, words ? INT16_MIN : INT8_MIN, words ? INT16_MAX : INT8_MAX};
+    struct samples s = {malloc(h.points * sizeof *s.of), h.points, words ? INT16_MIN : INT8_MIN, words ? INT16_MAX : INT8_MAX,
+                        tessarquin_field_float(head + TESSARQUIN_AT_VERTICAL_GAIN, order), tessarquin_field_float(head + TESSARQUIN_AT_VERTICAL_OFFSET, order)};
     check(s.of != NULL, "no memory");
     const uint8_t *from = b.bytes + at + (size_t)(segment - 1) * h.points * (words + 1);
     for (size_t k = 0; k < h.points; k++)
@@ -64,6 +66,18 @@ static inline void judge(struct slice b, uint32_t array, uint32_t segment, struc
     judge_columns(s, columns, least.bytes, greatest.bytes);
     give_back(least, room);
     give_back(greatest, room);
+}
+
+/* The values that the header says a host gets from the samples have the bits that a fill answers. */
+static inline void judge_values(struct slice b, uint32_t array, uint32_t segment, struct samples s)
+{
+    struct slice answer = lend(TESSARQUIN_FILL_BYTES(s.points));
+    check(tessarquin_fill(b.bytes, b.length, array, segment, answer.bytes, answer.length) == 0, "a fill is refused");
+    for (size_t k = 0; k < s.points; k++) {
+        double value = s.gain * (double)s.of[k] - s.offset, answered = tessarquin_double(answer.bytes, k);
+        check(memcmp(&value, &answered, sizeof value) == 0, "the value of a sample has other bits");
+    }
+    unmap(answer);
 }
 
 /* The second of three segments has samples at random, many of them alike and some at the rail; those beside it stand at

@@ -250,12 +250,15 @@ static void test_random(void)
         struct slice b = make_at_random(), copy = lend(b.length);
         for (size_t at = HEADER + DESCRIPTOR_BYTES + 16 * 5; at < b.length; at++)
             b.bytes[at] = once_in(9) ? 0x7F : once_in(9) ? 0x80 : (uint8_t)below(256);
+        put_float(b.bytes, b.bytes[HEADER + 34], 156, (float)below(1 << 24) / 0x1p30f - 0x1p-7f);
+        put_float(b.bytes, b.bytes[HEADER + 34], 160, once_in(3) ? 0 : (float)below(1 << 24) / 0x1p20f - 8);
         memcpy(copy.bytes, b.bytes, b.length);
         struct holds h = look(b);
         for (uint32_t which = 0; which < h.arrays * h.segments; which++) {
             uint32_t array = which / h.segments + 1, segment = which % h.segments + 1, setup[4] = {1, 0, 0, segment}, kept;
             struct samples s = samples_of(b, array, segment);
             struct slice alone = written(b, setup, below(2), &kept);
+            judge_values(b, array, segment, s);
             for (unsigned times = 0; times < 5; times++) {
                 judge(b, array, segment, s, 1 + below(h.points));
                 judge(alone, array, 1, s, 1 + below(h.points));
