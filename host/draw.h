@@ -17,7 +17,8 @@ struct axis {
     int64_t base; /* the multiple that they are written from: 0, but where the numbers would be long */
 };
 
-/* An axis over this range with at most so many ticks, which are two or more. */
+/* An axis over this range with at most so many ticks, which are five or more: with fewer, the step of a range that is as
+   wide as the doubles would be none of them. */
 struct axis axis_over(struct range range, struct part unit, int most);
 
 /* The range, or where it is so narrow that its ends cannot be told apart, `around` to both sides of it; where that is
@@ -102,7 +103,7 @@ void write_trigger(FILE *to, const struct drawing *d, const struct panel *panel)
 
 void write_picture(FILE *to, const struct drawing *d);
 
-/* So many letters wide; and how many ticks there is room for below. */
+/* So many letters wide; and how many ticks it has below at most. */
 void write_letters(FILE *to, const struct drawing *d, uint32_t width);
 int letter_ticks(uint32_t width);
 

@@ -19,7 +19,7 @@ struct plot {
 
 int letter_ticks(uint32_t width)
 {
-    return width < 20 ? 2 : (int)width / 10;
+    return width < 50 ? 5 : (int)width / 10;
 }
 
 /* ---- the plot */

@@ -62,6 +62,12 @@ asked draw --text "$sample"
 [ "$(tr -cd '*' <"$folder/out" | wc -c) $(grep '[|+]' "$folder/out" | tr -cd '#' | wc -c)" = '46 2' ] || wrong 'the sample: other points at the rail'
 [ "$(grep -c '^# ' "$folder/out")" = 1 ] || wrong 'the sample: another legend'
 [ -z "$(awk 'length($0) > 79' "$folder/out")" ] || wrong "the sample: a line too long for a terminal: $(awk 'length($0) > 79' "$folder/out")"
+# times from the least double to the greatest, by RIS offsets, however few letters there are
+patched "$folder/one" "${ris[@]}" 346 '\377\357\377\377\377\377\377\377\177\357\377\377\377\377\377\377'
+for width in 1 9 20 72; do
+    asked draw --text "$folder/damaged" --width "$width"
+    [ "$got" = 0 ] && ! grep -qE 'nan|inf' "$folder/out" || wrong "the greatest span: $got, $(cat "$folder/err" "$folder/out")"
+done
 # texts of the file as show has them, and nothing that a terminal takes for its own
 patched "$sample" 96 '\33[31m<\303\244\0'
 asked draw --text "$folder/damaged"
@@ -104,6 +110,7 @@ $run "$programs/made" 1 0 101 3 1 >many
 expect 1 'trace: a picture takes at most 100 segments, and many has 101: choose one by --segment' draw many none
 expect 1 'trace: a picture takes at most 100 segments, and many has 101: choose one by --segment' draw -f many old --text
 expect 0 '1 segment drawn in 3 columns, '"$("$trace" draw many --segment 101 | wc -c | sed 's/\(...\)$/,\1/')"' bytes written to last' draw many last --segment 101
+expect 0 '1 segment drawn in 5 columns, '"$("$trace" draw two --width 5 | wc -c | sed 's/\(...\)$/,\1/')"' bytes written to five' draw two five --width 5
 # what was found decides nothing: the library's number is told, with its own words
 FAULT=undrawn expect 1 "trace: a picture of two is refused (11): $(awk -F ' [|] ' '$1 == "| 11" { print $3 }' "$folder/table"); $(to_do 11)" draw two none
 FAULT=unasked expect 1 "trace: a picture of two is refused (13): a slice lent for the answer is too short; $(to_do 13)" draw -f two old
