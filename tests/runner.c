@@ -2,13 +2,13 @@
  * answers on standard output with the number and with all slices as the call left them. src/runner.rs
  * is the other end.
  *
- * A request is sixteen numbers of four bytes, low byte first: the kind of call, nine numbers for it (0
+ * A request is eighteen numbers of four bytes, low byte first: the kind of call, nine numbers for it (0
  * where it takes fewer), how many bytes at the end of the block cannot be touched (whole pages, 0 for most
- * calls), and the lengths of block, fallback, out, answer and marks; then the bytes of these five slices. A
- * reply is what the call returned, in eight bytes, and in four which slices have lost the known bytes before
- * them (bit 0 block, 1 fallback, 2 out, 3 answer, 4 marks); then the bytes of the slices again. Floats are
- * lent, and come back, as the bytes that they have in memory; a level is two of the nine numbers, the low
- * half of its bits and the high half.
+ * calls), and the lengths of block, fallback, out, answer, marks, least and greatest; then the bytes of these
+ * seven slices. A reply is what the call returned, in eight bytes, and in four which slices have lost the known
+ * bytes before them (bit 0 block, 1 fallback, 2 out, 3 answer, 4 marks, 5 least, 6 greatest); then the bytes of
+ * the slices again. Floats are lent, and come back, as the bytes that they have in memory; a level is two of
+ * the nine numbers, the low half of its bits and the high half.
  *
  * Every slice ends where memory that cannot be touched begins, so a call that reads or writes
  * behind a slice ends this program by a signal. */
@@ -27,9 +27,9 @@
 
 enum kind {
     PROBE, OPEN, POINT, FILL, CUT, FLOATS, WALK, STEP, USER_TEXT, LABEL, LAYOUT, TEXT_PLACE, LABEL_PLACE, WALKED_FLOATS,
-    JOIN, COMBINED, NARROW, CROSSING
+    JOIN, COMBINED, NARROW, CROSSING, STRIP
 };
-enum { BLOCK, FALLBACK, OUT, ANSWER, MARKS, SLICES };
+enum { BLOCK, FALLBACK, OUT, ANSWER, MARKS, LEAST, GREATEST, SLICES };
 
 /* How many numbers a request has for its call. */
 #define NUMBERS 9
@@ -194,6 +194,9 @@ static uint64_t call(enum kind kind, const uint32_t n[NUMBERS], const struct sli
         return tessarquin_fill(block, block_len, n[0], n[1], answer, answer_len);
     case CROSSING:
         return tessarquin_crossing(block, block_len, n[0], n[1], double_of(n[2], n[3]), answer, answer_len);
+    case STRIP:
+        return tessarquin_strip(block, block_len, n[0], n[1], n[2], start(&lent[LEAST]), lent[LEAST].len,
+                                start(&lent[GREATEST]), lent[GREATEST].len, answer, answer_len);
     case CUT:
         return tessarquin_cut(block, block_len, n[0], n[1], n[2], n[3], n[4], out, out_len, answer, answer_len);
     case COMBINED:

@@ -12,6 +12,7 @@ pub struct Calls {
     pub point: fn(&[u8], u32, u32, u32, &mut [u8]) -> u32,
     pub fill: fn(&[u8], u32, u32, &mut [u8]) -> u32,
     pub crossing: fn(&[u8], u32, u32, f64, &mut [u8]) -> u32,
+    pub strip: fn(&[u8], u32, u32, u32, &mut [u8], &mut [u8], &mut [u8]) -> u32,
     pub cut: fn(&[u8], u32, u32, u32, u32, u32, &mut [u8], &mut [u8]) -> u32,
     pub combined: fn(u32, u32, u32, u32, u32, u32, u32, u32, u32, &mut [u8]) -> u32,
     pub join: fn(&[u8], &mut [u8], &mut [u8]) -> u32,
@@ -31,12 +32,13 @@ pub struct Calls {
 #[macro_export]
 macro_rules! calls_of {
     ($module:path) => {{
-        use $module::{calls, combined, crossing, join, narrow, places, tested};
+        use $module::{calls, combined, crossing, join, narrow, places, strip, tested};
         $crate::calls::Calls {
             open: calls::open,
             point: calls::point,
             fill: calls::fill,
             crossing: crossing::crossing,
+            strip: strip::strip,
             cut: calls::cut,
             combined: combined::combined,
             join: join::join,
@@ -59,19 +61,18 @@ pub const LAW: Calls = calls_of!(crate::law);
 
 impl Calls {
     pub fn reply(&self, request: &Request) -> Reply {
-        let (mut out, mut answer) = (request.out.clone(), request.answer.clone());
-        let mut marks = request.marks.clone();
-        let number = match self.of_host(request, &mut out, &mut answer) {
+        let mut reply = request.as_lent();
+        reply.number = match self.of_host(request, &mut reply) {
             Some(number) => number.into(),
-            None => self.of_tests(request, &mut out, &mut answer, &mut marks),
+            None => self.of_tests(request, &mut reply),
         };
-        let (block, fallback) = (request.block.to_vec(), request.fallback.clone());
-        Reply { number, block, fallback, out, answer, marks, spoiled: vec![] }
+        reply
     }
 
     /// What a call of the C host returns; nothing for a test call.
-    fn of_host(&self, request: &Request, out: &mut [u8], answer: &mut [u8]) -> Option<u32> {
+    fn of_host(&self, request: &Request, reply: &mut Reply) -> Option<u32> {
         let Request { call, block, fallback, .. } = request;
+        let Reply { out, answer, least, greatest, .. } = reply;
         let number = match *call {
             Call::Open => (self.open)(block, answer),
             Call::Point { array, segment, point } => {
@@ -80,6 +81,9 @@ impl Calls {
             Call::Fill { array, segment } => (self.fill)(block, array, segment, answer),
             Call::Crossing { array, segment, level } => {
                 (self.crossing)(block, array, segment, f64::from_bits(level), answer)
+            }
+            Call::Strip { array, segment, columns } => {
+                (self.strip)(block, array, segment, columns, least, greatest, answer)
             }
             Call::Cut { setup: Setup { sp, np, fp, sn }, order } => {
                 (self.cut)(block, sp, np, fp, sn, order, out, answer)
@@ -98,14 +102,9 @@ impl Calls {
     }
 
     /// What a test call returns.
-    fn of_tests(
-        &self,
-        request: &Request,
-        out: &mut [u8],
-        answer: &mut [u8],
-        marks: &mut [u8],
-    ) -> u64 {
+    fn of_tests(&self, request: &Request, reply: &mut Reply) -> u64 {
         let Request { call, block, fallback, .. } = request;
+        let Reply { out, answer, marks, .. } = reply;
         match *call {
             Call::Floats { array, segment } => {
                 with_floats(answer, |floats| (self.floats)(block, array, segment, floats))

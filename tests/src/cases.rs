@@ -20,6 +20,7 @@ use crate::request::Call;
 use crate::results;
 use crate::rooms::request;
 use crate::shape::{any_order, Shape};
+use crate::strips;
 
 /// One case in so many has a long block.
 const LARGE_EVERY: u64 = 400;
@@ -35,6 +36,7 @@ pub fn run(checker: &mut Checker, seed: u64, case: u64) -> (String, Result<(), D
     match case % 8 {
         0 if case % 32 == 8 => narrows::run(checker, case / 32, random),
         0 if case % 32 == 24 => crossings::run(checker, case / 32, random),
+        0 if case % 32 == 16 => strips::run(checker, case / 32, random),
         0 => {
             let block = right_block(random);
             ("right block".into(), ask_much(checker, &block, random))
@@ -194,6 +196,7 @@ fn ask_much(checker: &mut Checker, block: &[u8], random: &mut Random) -> Result<
     calls.extend((0..6).map(|_| extent.point(random)));
     calls.extend((0..2).map(|_| extent.fill(random)));
     calls.extend((0..3).map(|_| extent.crossing(block, random)));
+    calls.extend((0..3).map(|_| extent.strip(random)));
     calls.extend((0..2).map(|_| extent.cut(random)));
     calls.extend((0..2).map(|_| extent.right_cut(random)));
     calls.push(Call::Narrow);

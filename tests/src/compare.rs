@@ -50,6 +50,16 @@ pub struct Tally {
     pub raised_levels: u64,
     /// Cuts that cross where their points do.
     pub cut_crossings: u64,
+    /// Strips of the samples that their blocks were made of.
+    pub known_strips: u64,
+    /// Strips of the values of their points.
+    pub valued_strips: u64,
+    /// Segments that have the same least, greatest and three numbers in any columns.
+    pub parted_segments: u64,
+    /// Strips that are those of twice as many columns, joined in pairs.
+    pub paired_strips: u64,
+    /// Segments whose strips are those of what is cut of them.
+    pub cut_strips: u64,
 }
 
 impl Tally {
@@ -68,7 +78,7 @@ impl Tally {
     }
 
     /// What was found on the core's own answers, and how often.
-    pub fn checked(&self) -> [(String, u64); 19] {
+    pub fn checked(&self) -> [(String, u64); 24] {
         [
             ("cut blocks that opened".into(), self.cut_blocks),
             ("narrowed blocks that opened".into(), self.narrowed_blocks),
@@ -89,6 +99,11 @@ impl Tally {
             ("crossings with other samples behind them".into(), self.changed_behind),
             ("levels that were raised".into(), self.raised_levels),
             ("cuts that cross where their points do".into(), self.cut_crossings),
+            ("strips of known samples".into(), self.known_strips),
+            ("strips of the values of their points".into(), self.valued_strips),
+            ("segments that are the same in any columns".into(), self.parted_segments),
+            ("strips of columns joined in pairs".into(), self.paired_strips),
+            ("segments with the strips of their cuts".into(), self.cut_strips),
         ]
     }
 
@@ -143,6 +158,13 @@ impl<'a> Checker<'a> {
         Ok(came)
     }
 
+    /// The reply to a call that nothing refuses.
+    pub fn accepted(&mut self, request: &Request) -> Result<Reply, Difference> {
+        let reply = self.ask(request)?;
+        same(&format!("{}: refusal", request.call), reply.number, 0)?;
+        Ok(reply)
+    }
+
     fn difference(&self, request: &Request, lines: &[String]) -> Difference {
         let mut text = describe(request);
         lines.iter().for_each(|line| text += &format!("\n    {line}"));
@@ -154,10 +176,13 @@ impl<'a> Checker<'a> {
 }
 
 fn describe(request: &Request) -> String {
-    let Request { call, block, unread, out, answer, marks, .. } = request;
+    let Request { call, block, unread, out, answer, marks, least, greatest, .. } = request;
     let (block, out, answer, marks) = (block.len(), out.len(), answer.len(), marks.len());
+    let (least, greatest) = (least.len(), greatest.len());
     let unread = if *unread == 0 { String::new() } else { format!(" ({unread} of it unread)") };
-    format!("{call}; block of {block}{unread}, out of {out}, answer of {answer}, marks of {marks}")
+    format!(
+        "{call}; block of {block}{unread}, out of {out}, answer of {answer}, marks of {marks}, least of {least}, greatest of {greatest}"
+    )
 }
 
 fn differences(call: Call, expected: &Reply, came: &Reply) -> Vec<String> {
@@ -174,6 +199,8 @@ fn differences(call: Call, expected: &Reply, came: &Reply) -> Vec<String> {
     lines.extend(slice_difference("out", &expected.out, &came.out));
     lines.extend(slice_difference("answer", &expected.answer, &came.answer));
     lines.extend(slice_difference("marks", &expected.marks, &came.marks));
+    lines.extend(slice_difference("least", &expected.least, &came.least));
+    lines.extend(slice_difference("greatest", &expected.greatest, &came.greatest));
     lines
 }
 
@@ -192,7 +219,9 @@ pub fn reply_difference(first: &Reply, second: &Reply) -> Option<String> {
     let out = || slice_difference("out", &first.out, &second.out);
     let answer = || slice_difference("answer", &first.answer, &second.answer);
     let marks = || slice_difference("marks", &first.marks, &second.marks);
-    numbers.or_else(out).or_else(answer).or_else(marks)
+    let least = || slice_difference("least", &first.least, &second.least);
+    let greatest = || slice_difference("greatest", &first.greatest, &second.greatest);
+    numbers.or_else(out).or_else(answer).or_else(marks).or_else(least).or_else(greatest)
 }
 
 /// Where two contents of a slice first differ, with the bytes from there on.

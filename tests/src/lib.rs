@@ -25,6 +25,7 @@ pub mod rooms;
 pub mod runner;
 pub mod samples;
 pub mod shape;
+pub mod strips;
 pub mod times;
 
 #[cfg(test)]

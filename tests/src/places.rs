@@ -18,19 +18,12 @@ const USER_TEXT: usize = 1;
 pub fn check(checker: &mut Checker, draft: &Draft, random: &mut Random) -> Result<(), Difference> {
     let block = draft.bytes();
     let [layout, text, label] = place_calls(random).map(|call| exact_request(random, call, &block));
-    let layout = accepted(checker, &layout)?;
+    let layout = checker.accepted(&layout)?;
     check_parts(&layout, draft)?;
     check_user_text(checker, &text, &layout, random)?;
     check_label(checker, &label, random)?;
     checker.tally.placed_blocks += 1;
     Ok(())
-}
-
-/// The reply to a call that nothing refuses.
-fn accepted(checker: &mut Checker, request: &Request) -> Result<Reply, Difference> {
-    let reply = checker.ask(request)?;
-    same(&format!("{}: refusal", request.call), reply.number, 0)?;
-    Ok(reply)
 }
 
 /// The payload starts where the header ends. Its first part starts at 0, each part where the one
@@ -53,7 +46,7 @@ fn check_user_text(
     layout: &Reply,
     random: &mut Random,
 ) -> Result<(), Difference> {
-    let place = accepted(checker, request)?;
+    let place = checker.accepted(request)?;
     let (start, length) = (place.number_at(0), place.number_at(1));
     let by_layout = layout.number_at(0).wrapping_add(layout.number_at(STARTS + USER_TEXT));
     same("user text: start, and by the layout", start, by_layout)?;
@@ -68,7 +61,7 @@ fn check_label(
     request: &Request,
     random: &mut Random,
 ) -> Result<(), Difference> {
-    let place = accepted(checker, request)?;
+    let place = checker.accepted(request)?;
     let slices = [request.block, &request.fallback];
     let slice = slices.get(place.number_at(0) as usize);
     let stands = slice.and_then(|slice| part(slice, place.number_at(1), place.number_at(2)));

@@ -5,6 +5,7 @@ use crate::law::cut::Setup;
 use crate::law::rules::{open, LAST_PLACE};
 use crate::random::Random;
 use crate::request::Call;
+use crate::strips::columns;
 
 /// The limits of a block's questions.
 pub struct Extent {
@@ -44,6 +45,15 @@ impl Extent {
     pub fn crossing(&self, block: &[u8], random: &mut Random) -> Call {
         let (array, segment) = (self.array(random), self.segment(random));
         Call::Crossing { array, segment, level: levels::of_block(block, array, segment, random) }
+    }
+
+    pub fn strip(&self, random: &mut Random) -> Call {
+        let (array, segment) = (self.array(random), self.segment(random));
+        let columns = match random.below(10) {
+            0 => self.bad_columns(random),
+            _ => columns::right(self.points, random),
+        };
+        Call::Strip { array, segment, columns }
     }
 
     pub fn cut(&self, random: &mut Random) -> Call {
@@ -99,6 +109,7 @@ impl Extent {
     pub fn c_calls(&self, block: &[u8], random: &mut Random) -> Vec<Call> {
         let mut calls = vec![Call::Open, self.point(random), self.fill(random), self.cut(random)];
         calls.push(self.crossing(block, random));
+        calls.push(self.strip(random));
         calls.extend(place_calls(random));
         calls.push(Call::Narrow);
         calls
@@ -147,6 +158,12 @@ impl Extent {
     pub fn bad_segment(&self, random: &mut Random) -> u32 {
         let beyond = self.beyond(random, self.segments);
         random.pick(&[0, beyond, beyond])
+    }
+
+    /// Columns that a segment is not parted into: none, or more than its points.
+    pub fn bad_columns(&self, random: &mut Random) -> u32 {
+        let beyond = self.beyond(random, self.points);
+        random.pick(&[0, 0, beyond, beyond, beyond, 1 << 31])
     }
 
     /// A point number or FP.

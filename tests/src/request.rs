@@ -11,6 +11,8 @@ pub enum Call {
     Fill { array: u32, segment: u32 },
     // The level by its bits, so that every double can be asked for.
     Crossing { array: u32, segment: u32, level: u64 },
+    // The columns' leasts go to `least`, their greatests to `greatest`.
+    Strip { array: u32, segment: u32, columns: u32 },
     Cut { setup: Setup, order: u32 },
     // The one cut for cut a, then cut b, which answered `count`; it takes no block.
     Combined { a: Setup, b: Setup, count: u32 },
@@ -39,7 +41,7 @@ pub enum Call {
 
 impl Call {
     /// How many calls there are, by name.
-    pub const NAMES: usize = 17;
+    pub const NAMES: usize = 18;
 
     pub fn name(&self) -> &'static str {
         match self {
@@ -47,6 +49,7 @@ impl Call {
             Call::Point { .. } => "point",
             Call::Fill { .. } => "fill",
             Call::Crossing { .. } => "crossing",
+            Call::Strip { .. } => "strip",
             Call::Cut { .. } => "cut",
             Call::Combined { .. } => "combined setup",
             Call::Join => "join",
@@ -109,6 +112,9 @@ impl fmt::Display for Call {
                 let number = f64::from_bits(*level);
                 write!(f, ": array {array}, segment {segment}, level {level:016X} ({number:e})")
             }
+            Call::Strip { array, segment, columns } => {
+                write!(f, ": array {array}, segment {segment}, columns {columns}")
+            }
             Call::Cut { setup, order } => write!(f, ": {setup}, order {order}"),
             Call::Combined { a, b, count } => write!(f, ": {a}; then {b}, c {count}"),
             Call::Step { array, segment, k } => {
@@ -130,7 +136,8 @@ impl fmt::Display for Setup {
 
 /// A call with the slices lent to it, and what they hold before it. `fallback` is empty but for a
 /// label and its place, `out` but for a cut, a join, a narrowing and a walk, `marks` but for a walk
-/// and a step. A combined setup takes no block. Floats are lent as their bytes, the low byte first.
+/// and a step, `least` and `greatest` but for a strip. A combined setup takes no block. Floats are
+/// lent as their bytes, the low byte first.
 #[derive(Clone)]
 pub struct Request<'a> {
     pub call: Call,
@@ -142,6 +149,25 @@ pub struct Request<'a> {
     pub out: Vec<u8>,
     pub answer: Vec<u8>,
     pub marks: Vec<u8>,
+    pub least: Vec<u8>,
+    pub greatest: Vec<u8>,
+}
+
+impl Request<'_> {
+    /// 0, and the slices as they are lent.
+    pub fn as_lent(&self) -> Reply {
+        Reply {
+            number: 0,
+            block: self.block.to_vec(),
+            fallback: self.fallback.clone(),
+            out: self.out.clone(),
+            answer: self.answer.clone(),
+            marks: self.marks.clone(),
+            least: self.least.clone(),
+            greatest: self.greatest.clone(),
+            spoiled: vec![],
+        }
+    }
 }
 
 /// The number returned, and what the slices hold after the call.
@@ -153,6 +179,8 @@ pub struct Reply {
     pub out: Vec<u8>,
     pub answer: Vec<u8>,
     pub marks: Vec<u8>,
+    pub least: Vec<u8>,
+    pub greatest: Vec<u8>,
     /// The slices, by name, that no longer have their known bytes before them.
     pub spoiled: Vec<&'static str>,
 }

@@ -12,21 +12,23 @@ use crate::request::{Call, Reply, Request};
 const MOST_ROOM: usize = 1 << 22;
 
 /// Bytes of the slices that an answer goes to.
-#[derive(Clone, Copy)]
+#[derive(Clone, Copy, Debug, Default)]
 pub struct Room {
     pub out: usize,
     pub answer: usize,
     pub marks: usize,
+    pub least: usize,
+    pub greatest: usize,
 }
 
 impl Room {
     /// For a cut, a join or a narrowing: its block, then the numbers of its answer.
     pub fn for_block(out: usize, answer: usize) -> Room {
-        Room { out, answer, marks: 0 }
+        Room { out, answer, ..Room::default() }
     }
 
     pub fn for_answer(answer: usize) -> Room {
-        Room { out: 0, answer, marks: 0 }
+        Room { answer, ..Room::default() }
     }
 }
 
@@ -42,8 +44,10 @@ pub fn request<'a>(random: &mut Random, call: Call, block: &'a [u8]) -> Request<
     let mut lent = |need: usize, unit: usize| (unit * near(random, need / unit)).min(most);
     let out = if need.out == 0 { 0 } else { lent(need.out, unit) };
     let answer = lent(need.answer, unit);
-    let marks = if need.marks == 0 { 0 } else { lent(need.marks, 1) };
-    with_room(random, call, block, Room { out, answer, marks })
+    let [marks, least, greatest] =
+        [need.marks, need.least, need.greatest]
+            .map(|need| if need == 0 { 0 } else { lent(need, 1) });
+    with_room(random, call, block, Room { out, answer, marks, least, greatest })
 }
 
 /// A request with exactly the room that the answer takes.
@@ -68,8 +72,9 @@ pub fn with_room<'a>(random: &mut Random, call: Call, block: &'a [u8], room: Roo
         false => random.bytes(room),
     };
     let (out, answer) = (lent(room.out), lent(room.answer));
-    let marks = random.bytes(room.marks);
-    Request { call, block, unread: 0, fallback, out, answer, marks }
+    let [marks, least, greatest] =
+        [room.marks, room.least, room.greatest].map(|room| random.bytes(room));
+    Request { call, block, unread: 0, fallback, out, answer, marks, least, greatest }
 }
 
 /// Bytes of floats, none of them a NaN: a contract says that a float is as it was, and the logic has
@@ -97,12 +102,17 @@ fn need(call: Call, block: &[u8]) -> Room {
         Call::Layout => Room::for_answer(200),
         Call::TextPlace | Call::Crossing { .. } => Room::for_answer(16),
         Call::LabelPlace { .. } => Room::for_answer(24),
+        Call::Strip { columns, .. } => {
+            // Refused columns are given the room of those that are not, or of one more.
+            let columns = (columns as usize).clamp(1, points() + 1);
+            Room { least: 8 * columns, greatest: 8 * columns, ..Room::for_answer(24) }
+        }
         Call::Floats { .. } | Call::WalkedFloats { .. } => Room::for_answer(8 * points()),
         Call::Walk { .. } => {
             let points = points();
-            Room { out: 8 * points, answer: 8 * points, marks: points }
+            Room { marks: points, ..Room::for_block(8 * points, 8 * points) }
         }
-        Call::Step { .. } => Room { out: 0, answer: 16, marks: 1 },
+        Call::Step { .. } => Room { marks: 1, ..Room::for_answer(16) },
         Call::UserText => Room::for_answer(texts::user_text(block).len()),
         Call::Label { fallback } => Room::for_answer(texts::label(block, &vec![0; fallback]).len()),
     }
@@ -115,10 +125,11 @@ fn need_of_block(call: Call, block: &[u8], answer: usize, written: fn(&Reply) ->
     Room::for_block(if reply.number == 0 { written(&reply).len() } else { 400 }, answer)
 }
 
-/// A request without a fallback whose outputs hold zeros.
+/// A request for a block to be written, whose outputs hold zeros.
 fn with_zeros(call: Call, block: &[u8], room: Room) -> Request<'_> {
-    let [out, answer, marks] = [room.out, room.answer, room.marks].map(|room| vec![0; room]);
-    Request { call, block, unread: 0, fallback: vec![], out, answer, marks }
+    let [out, answer] = [room.out, room.answer].map(|room| vec![0; room]);
+    let (fallback, marks, least, greatest) = Default::default();
+    Request { call, block, unread: 0, fallback, out, answer, marks, least, greatest }
 }
 
 /// So many bytes or floats, or as many as are too few or more.

@@ -15,11 +15,11 @@ use crate::request::{Call, Core, Reply, Request};
 /// How many numbers a request has for its call; those that the call does not take are 0.
 const NUMBERS: usize = 9;
 
-const SLICES: [&str; 5] = ["block", "fallback", "out", "answer", "marks"];
+const SLICES: [&str; 7] = ["block", "fallback", "out", "answer", "marks", "least", "greatest"];
 
 /// The kind of call that tries the runner itself, and what the slices hold then.
 const PROBE: u32 = 0;
-const PROBED: Lent = [&[1], &[2], &[3], &[4], &[5]];
+const PROBED: Lent = [&[1], &[2], &[3], &[4], &[5], &[6], &[7]];
 /// Which byte such a call touches: the one before the slice, the one behind it, or its last.
 const BEFORE: u32 = 0;
 const BEHIND: u32 = 1;
@@ -78,7 +78,8 @@ impl Runner {
             Runner::ended(command, &[slice as u32, BEHIND], 0, PROBED)?;
         }
         let page = [0; PAGE];
-        let slices = [&page, PROBED[1], PROBED[2], PROBED[3], PROBED[4]];
+        let mut slices = PROBED;
+        slices[0] = &page;
         runner.exchange(PROBE, &[0, LAST], 0, slices)?;
         Runner::ended(command, &[0, LAST], PAGE, slices)
     }
@@ -138,10 +139,11 @@ impl Runner {
         };
         let number = u64::from_le_bytes(next(8).try_into().expect("eight bytes"));
         let lost = u32::from_le_bytes(next(4).try_into().expect("four bytes"));
-        let [block, fallback, out, answer, marks] = slices.map(|slice| next(slice.len()));
+        let [block, fallback, out, answer, marks, least, greatest] =
+            slices.map(|slice| next(slice.len()));
         let spoiled = SLICES.into_iter().enumerate().filter(|(bit, _)| lost >> bit & 1 == 1);
         let spoiled = spoiled.map(|(_, name)| name).collect();
-        Ok(Reply { number, block, fallback, out, answer, marks, spoiled })
+        Ok(Reply { number, block, fallback, out, answer, marks, least, greatest, spoiled })
     }
 
     /// Why there is no reply: how the runner ended.
@@ -184,9 +186,11 @@ impl Core for Runner {
             Call::Crossing { array, segment, level } => {
                 (17, vec![array, segment, level as u32, (level >> 32) as u32])
             }
+            Call::Strip { array, segment, columns } => (18, vec![array, segment, columns]),
         };
-        let Request { block, unread, fallback, out, answer, marks, .. } = request;
-        self.exchange(kind, &numbers, *unread, [block, fallback, out, answer, marks])
+        let Request { block, unread, fallback, out, answer, marks, least, greatest, .. } = request;
+        let slices: Lent = [block, fallback, out, answer, marks, least, greatest];
+        self.exchange(kind, &numbers, *unread, slices)
     }
 }
 

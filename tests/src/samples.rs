@@ -1,6 +1,8 @@
 //! Samples of right blocks: any, at the rail, one beside it, and such as a reader of another type or
-//! byte order would take for the rail; and words about the multiples of 256.
+//! byte order would take for the rail; words about the multiples of 256; constant ones, ramps and
+//! spikes.
 
+use crate::draft::Draft;
 use crate::law::numbers::{read_signed, store, Order};
 use crate::random::Random;
 use crate::shape::Shape;
@@ -81,7 +83,40 @@ pub fn one(random: &mut Random, width: usize, points: usize, place: usize) -> Ve
     samples
 }
 
-fn segment(random: &mut Random, width: usize, points: usize) -> Vec<i64> {
+/// Constant samples, ramps up and down of small steps or over the whole range, and one spike.
+pub fn pattern(width: usize, points: usize, random: &mut Random) -> Vec<i64> {
+    let [lowest, highest] = rail(width);
+    let (start, last) = (random.range(lowest, highest), points.max(2) as i64 - 1);
+    let whole = |k: i64| lowest + (highest - lowest) * k / last;
+    let mut samples: Vec<i64> = match random.below(4) {
+        0 | 1 => vec![start; points],
+        2 => (0..points as i64).map(whole).collect(),
+        _ => (0..points as i64).map(|k| (start + k).min(highest)).collect(),
+    };
+    if random.once_in(2) {
+        samples.reverse();
+    }
+    if random.once_in(2) {
+        samples[random.below(points)] = random.range(lowest, highest);
+    }
+    samples
+}
+
+/// Gives a block such samples in place of its own, each segment others.
+pub fn set_patterns(draft: &mut Draft, shape: &Shape, random: &mut Random) {
+    let (width, points) = (shape.width(), shape.points as usize);
+    let mut array = || {
+        let rows = (0..shape.segments()).flat_map(|_| pattern(width, points, random));
+        bytes(shape.order, width, &rows.collect::<Vec<_>>())
+    };
+    draft.array_1 = array();
+    if shape.two_arrays {
+        draft.array_2 = array();
+    }
+}
+
+/// The samples of one segment of a right block.
+pub fn segment(random: &mut Random, width: usize, points: usize) -> Vec<i64> {
     match random.below(9) {
         0..=2 => any(random, width, points),
         8 if width == 2 => (0..points).map(|_| random.pick(&HIGH_BYTE_CHANGES)).collect(),

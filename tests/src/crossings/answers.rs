@@ -61,13 +61,6 @@ impl Asked {
     }
 }
 
-/// The reply to a call that nothing refuses.
-fn accepted(checker: &mut Checker, request: &Request) -> Result<Reply, Difference> {
-    let reply = checker.ask(request)?;
-    same(&format!("{}: refusal", request.call), reply.number, 0)?;
-    Ok(reply)
-}
-
 /// The point that an answer has: 1 and its number, or 0 and 0 for none.
 fn point_of(call: Call, reply: &Reply) -> Result<Option<u64>, Difference> {
     match [reply.number_at(0), reply.number_at(1)] {
@@ -83,7 +76,7 @@ fn crossing(
     block: &[u8],
     random: &mut Random,
 ) -> Result<Option<u64>, Difference> {
-    let reply = accepted(checker, &exact_request(random, call, block))?;
+    let reply = checker.accepted(&exact_request(random, call, block))?;
     point_of(call, &reply)
 }
 
@@ -99,7 +92,7 @@ pub fn check_values(
     let call = asked.call(level);
     let crossed = crossing(checker, call, block, random)?;
     let fill = Call::Fill { array: *array, segment: *segment };
-    let fill = accepted(checker, &exact_request(random, fill, block))?;
+    let fill = checker.accepted(&exact_request(random, fill, block))?;
     let points = u64::from(asked.extent.points);
     let end = crossed.unwrap_or(points);
     let at = |k: u64| f64::from_bits(fill.number_at(k as usize)) >= level;
@@ -111,7 +104,7 @@ pub fn check_values(
     }
     for k in [end.wrapping_sub(1), end].into_iter().filter(|k| *k < points) {
         let point = Call::Point { array: *array, segment: *segment, point: k as u32 };
-        let value = accepted(checker, &exact_request(random, point, block))?.number_at(0);
+        let value = checker.accepted(&exact_request(random, point, block))?.number_at(0);
         same(&format!("{call}: value of point {k}"), value, fill.number_at(k as usize))?;
     }
     match crossed {
@@ -130,7 +123,7 @@ pub fn check_behind(
 ) -> Result<(), Difference> {
     let call = asked.call(asked.level(random));
     let request = exact_request(random, call, &asked.block);
-    let before = accepted(checker, &request)?;
+    let before = checker.accepted(&request)?;
     let points = u64::from(asked.extent.points);
     let kept = point_of(call, &before)?.map_or(points, |point| points.min(point.saturating_add(1)));
     let other = with_other_samples(asked, kept as usize, random).bytes();
@@ -216,7 +209,7 @@ fn check_cut(
     let (sp, sn) = (random.pick(&[0, 1]), random.pick(&[0, asked.segment]));
     let setup = Setup { sp, np: np as u32, fp: fp as u32, sn };
     let cut = Call::Cut { setup, order: random.below(2) as u32 };
-    let reply = accepted(checker, &exact_request(random, cut, &asked.block))?;
+    let reply = checker.accepted(&exact_request(random, cut, &asked.block))?;
     let segment = if sn == 0 { asked.segment } else { 1 };
     let call = Call::Crossing { array: asked.array, segment, level: level.to_bits() };
     let came = crossing(checker, call, reply.written(), random)?;

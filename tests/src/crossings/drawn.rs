@@ -1,7 +1,7 @@
 //! The blocks that are asked for crossings: those of known rows, with the first point at the level at
 //! every place where a reader of several samples at once may go wrong; and any others.
 
-use super::rows::{pattern, Row, Sides};
+use super::rows::{Row, Sides};
 use super::scales::Scale;
 use crate::draft::Draft;
 use crate::law::numbers::Order;
@@ -154,15 +154,7 @@ pub fn any(random: &mut Random) -> Draft {
         Scale::any(random).set(&mut draft);
     }
     if random.once_in(2) {
-        let (width, points) = (shape.width(), shape.points as usize);
-        let mut array = || {
-            let rows = (0..shape.segments()).flat_map(|_| pattern(width, points, random));
-            samples::bytes(shape.order, width, &rows.collect::<Vec<_>>())
-        };
-        draft.array_1 = array();
-        if shape.two_arrays {
-            draft.array_2 = array();
-        }
+        samples::set_patterns(&mut draft, &shape, random);
     }
     draft
 }

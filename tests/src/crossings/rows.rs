@@ -1,5 +1,5 @@
 //! The samples of one segment: those below a level and those at or above it, put where the first of
-//! the others is known; and constant ones, ramps and spikes.
+//! the others is known.
 
 use super::levels;
 use super::scales::Scale;
@@ -89,25 +89,6 @@ fn drawn(samples: &[i64], points: usize, random: &mut Random) -> Vec<i64> {
         return vec![random.pick(samples); points];
     }
     (0..points).map(|_| random.pick(samples)).collect()
-}
-
-/// Constant samples, ramps up and down of small steps or over the whole range, and one spike.
-pub fn pattern(width: usize, points: usize, random: &mut Random) -> Vec<i64> {
-    let [lowest, highest] = rail(width);
-    let (start, last) = (random.range(lowest, highest), points.max(2) as i64 - 1);
-    let whole = |k: i64| lowest + (highest - lowest) * k / last;
-    let mut samples: Vec<i64> = match random.below(4) {
-        0 | 1 => vec![start; points],
-        2 => (0..points as i64).map(whole).collect(),
-        _ => (0..points as i64).map(|k| (start + k).min(highest)).collect(),
-    };
-    if random.once_in(2) {
-        samples.reverse();
-    }
-    if random.once_in(2) {
-        samples[random.below(points)] = random.range(lowest, highest);
-    }
-    samples
 }
 
 #[cfg(test)]

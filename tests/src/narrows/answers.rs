@@ -80,9 +80,7 @@ fn accepted(
     block: &[u8],
     random: &mut Random,
 ) -> Result<Reply, Difference> {
-    let reply = checker.ask(&exact_request(random, call, block))?;
-    same(&format!("{call}: refusal"), reply.number, 0)?;
-    Ok(reply)
+    checker.accepted(&exact_request(random, call, block))
 }
 
 /// Segments, points, arrays and order are the same, and the samples are bytes; F, S, SEGMENT_INDEX
