@@ -9,7 +9,7 @@ use std::{env, fs};
 const LAW: &str = "../src/law";
 const LIST: &str = "wrong.txt";
 /// What a version may be caught by with nothing to compare with; src/main.rs has a way for each.
-const FLAWS: [&str; 16] = [
+const FLAWS: [&str; 20] = [
     "breaks demand 3",
     "breaks a chain",
     "breaks a rule",
@@ -26,6 +26,10 @@ const FLAWS: [&str; 16] = [
     "looks behind",
     "falls back",
     "moves in a cut",
+    "misses a sample",
+    "hangs on the columns",
+    "pairs otherwise",
+    "changes in a cut",
 ];
 
 /// One entry of the list; a line left out has no wrong one.

@@ -12,6 +12,7 @@ use tessarquin_tests::crossings;
 use tessarquin_tests::joins;
 use tessarquin_tests::narrows;
 use tessarquin_tests::random::Random;
+use tessarquin_tests::strips;
 
 /// A wrong version.
 struct Version {
@@ -41,7 +42,7 @@ struct Way {
     run: fn(&mut Checker, &mut Random) -> Result<(), Difference>,
 }
 
-const WAYS: [Way; 16] = [
+const WAYS: [Way; 20] = [
     Way {
         flaw: "breaks demand 3",
         caught_how: "caught by demand 3 alone",
@@ -137,6 +138,30 @@ const WAYS: [Way; 16] = [
         caught_how: "caught by cutting about the crossing alone",
         kind: "crossing and cuts",
         run: crossings::by_cuts,
+    },
+    Way {
+        flaw: "misses a sample",
+        caught_how: "caught by the values of the points in their strips alone",
+        kind: "strips and values",
+        run: strips::by_values,
+    },
+    Way {
+        flaw: "hangs on the columns",
+        caught_how: "caught by other columns alone",
+        kind: "strips in other columns",
+        run: strips::by_columns,
+    },
+    Way {
+        flaw: "pairs otherwise",
+        caught_how: "caught by joining columns in pairs alone",
+        kind: "strips and pairs of columns",
+        run: strips::by_pairs,
+    },
+    Way {
+        flaw: "changes in a cut",
+        caught_how: "caught by the strips of cuts alone",
+        kind: "strips and cuts",
+        run: strips::by_cuts,
     },
 ];
 

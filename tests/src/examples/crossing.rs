@@ -124,7 +124,7 @@ fn a_word_crosses_in_the_order_of_its_block() {
 }
 
 /// Three segments of two points in each of two arrays.
-fn six_segments(order: Order) -> Draft {
+pub fn six_segments(order: Order) -> Draft {
     let mut draft = scaled(draft(order, &[1, 2, 9, 0, 3, 4], 1), 1.0, 0.0);
     draft.array_2 = bytes(order, 1, &[-1, -2, -3, 5, -5, -6]);
     draft.set_long(SUBARRAY_COUNT, 3);

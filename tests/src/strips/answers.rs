@@ -106,7 +106,7 @@ pub fn check_pairs(
 ) -> Result<(), Difference> {
     // A segment of one point is in no even number of columns.
     let mut columns = columns::right(asked.points, random).max(2).min(asked.points) / 2 * 2;
-    while columns != 0 && columns % 2 == 0 {
+    while columns > 1 && columns & 1 == 0 {
         let joined = strip(checker, asked.call(columns), &asked.block, random)?.paired();
         columns /= 2;
         let call = asked.call(columns);
@@ -167,12 +167,13 @@ fn check_column_cuts(
         let setup = Setup { sp: 1, np, fp, sn: 0 };
         let (_, column) = cut_strip(checker, asked, setup, 1, random)?;
         if made.greatest.iter().all(|greatest| *greatest < column.greatest[0]) {
-            made.peak = start(q) + column.peak;
+            made.peak = start(q).wrapping_add(column.peak);
         }
         made.least.extend(column.least);
         made.greatest.extend(column.greatest);
-        made.sum += column.sum;
-        made.marks += column.marks;
+        // A wrong version may answer any numbers.
+        made.sum = made.sum.wrapping_add(column.sum);
+        made.marks = made.marks.wrapping_add(column.marks);
     }
     of_segment.same(call, &made)
 }

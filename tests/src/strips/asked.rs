@@ -25,8 +25,7 @@ pub fn known(checker: &mut Checker, known: &Known, random: &mut Random) -> Resul
         let points = row.samples.len() as u32;
         let ends = random.pick(&[1, points]);
         for columns in [row.columns, columns::right(points, random), ends] {
-            let call = Call::Strip { array, segment, columns };
-            check_known(checker, block, call, row, known.draft.width, random)?;
+            check_known(checker, block, [array, segment, columns], row, random)?;
         }
         Ok(())
     })
@@ -40,8 +39,7 @@ pub fn in_any_columns(
 ) -> Result<(), Difference> {
     each_row(known, |block, array, segment, row| {
         for columns in 1..=row.columns {
-            let call = Call::Strip { array, segment, columns };
-            check_known(checker, block, call, row, known.draft.width, random)?;
+            check_known(checker, block, [array, segment, columns], row, random)?;
         }
         Ok(())
     })
@@ -65,14 +63,13 @@ fn each_row(
 fn check_known(
     checker: &mut Checker,
     block: &[u8],
-    call: Call,
+    [array, segment, columns]: [u32; 3],
     row: &Row,
-    width: usize,
     random: &mut Random,
 ) -> Result<(), Difference> {
-    let Call::Strip { columns, .. } = call else { unreachable!("{call} is no strip") };
+    let call = Call::Strip { array, segment, columns };
     let reply = checker.accepted(&exact_request(random, call, block))?;
-    Strip::read(&reply).same(call, &Strip::of(&row.samples, row.marks(width), columns))?;
+    Strip::read(&reply).same(call, &Strip::of(&row.samples, row.marks, columns))?;
     checker.tally.known_strips += 1;
     Ok(())
 }

@@ -19,13 +19,14 @@ const LENGTHS: [usize; 46] = [
 /// Segments of an array with known samples.
 const ROWS: usize = 5;
 
-/// How long the long segments are at least. The columns of the second start beyond what 32 bits count,
-/// and the sums of the third are beyond them.
+/// How long the long segments are at least: q·M leaves 32 bits from the second on, and so does the sum of
+/// the third where all samples are at the rail of words.
 const LONG: [usize; 3] = [65_536, 100_000, 140_000];
 
-/// The samples of a segment, and the columns that they are made for.
+/// The samples of a segment, how many of them are at the rail, and the columns that they are made for.
 pub struct Row {
     pub samples: Vec<i64>,
+    pub marks: u64,
     pub columns: u32,
 }
 
@@ -36,9 +37,9 @@ pub struct Known {
 }
 
 impl Row {
-    /// How many of the samples are at the rail.
-    pub fn marks(&self, width: usize) -> u64 {
-        self.samples.iter().filter(|sample| rail(width).contains(sample)).count() as u64
+    fn new(samples: Vec<i64>, width: usize, columns: u32) -> Row {
+        let marks = samples.iter().filter(|sample| rail(width).contains(sample)).count() as u64;
+        Row { samples, marks, columns }
     }
 }
 
@@ -70,27 +71,23 @@ pub fn of_turn(turn: usize, random: &mut Random) -> Known {
 pub fn short(turn: usize, random: &mut Random) -> Known {
     let points = 1 + turn % SHORT as usize;
     let (order, width) = kind_of(turn + turn / SHORT as usize);
-    let row = |samples: Vec<i64>| Row { samples, columns: points as u32 };
+    let row = |samples: Vec<i64>| Row::new(samples, width, points as u32);
     let arrays = [rows::greatest_at, rows::least_at].map(|at| {
         (0..points).map(|place| row(at(width, points, place, random))).collect::<Vec<Row>>()
     });
     known(order, width, arrays.into(), random)
 }
 
-/// One long segment or two, in few columns or in nearly as many as they have points.
+/// A long segment of any kind, in nearly as many columns as it has points, and one of the same samples
+/// all at the rail, in one column or few.
 pub fn long(random: &mut Random) -> Known {
-    let (order, width) = (any_order(random), 1 + random.below(2));
+    let (order, width) = (any_order(random), random.pick(&[1, 2, 2]));
     let points = random.pick(&LONG) + random.below(70);
-    let segments = 1 + random.below(2);
-    let mut row = || {
-        let kind = random.below(rows::KINDS);
-        let few = columns::right(points as u32, random);
-        let nearly_all = (points - points / 10 - random.below(70)) as u32;
-        let columns = random.pick(&[few, nearly_all, nearly_all, points as u32 - 1]);
-        row(kind, width, points, columns, random)
-    };
-    let arrays = vec![(0..segments).map(|_| row()).collect()];
-    known(order, width, arrays, random)
+    let nearly_all = (points - points / 10 - random.below(70)) as u32;
+    let few = random.pick(&[1, 1, 2, 3, 1000]);
+    let any = row(random.below(rows::KINDS), width, points, nearly_all, random);
+    let alike = row(rows::ALIKE, width, points, few, random);
+    known(order, width, vec![vec![any, alike]], random)
 }
 
 fn kind_of(turn: usize) -> (Order, usize) {
@@ -99,7 +96,7 @@ fn kind_of(turn: usize) -> (Order, usize) {
 
 fn row(kind: usize, width: usize, points: usize, columns: u32, random: &mut Random) -> Row {
     let place = place(points, columns as usize, random);
-    Row { samples: rows::of_kind(kind, width, points, place, random), columns }
+    Row::new(rows::of_kind(kind, width, points, place, random), width, columns)
 }
 
 /// A place at an end of a column or of the segment, at or beside a multiple of a power of two that is

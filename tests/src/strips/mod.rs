@@ -15,11 +15,10 @@ use answers::Asked;
 /// How many blocks a turn has that are checked on the core's own answers.
 const BLOCKS: usize = 4;
 
-/// One turn of known samples in so many has a long block as well, and the first such turn is not among
-/// the first of all. One block of any kind in so many is long.
-const LONG_EVERY: usize = 16;
+/// One turn of a kind in so many has a long block as well, and the first such turn is not among the first
+/// of all.
+const LONG_EVERY: usize = 8;
 const FIRST_LONG: usize = 3;
-const LONG_ONCE_IN: usize = 100;
 
 /// Runs a turn and answers what kind it was.
 pub fn run(
@@ -35,7 +34,7 @@ pub fn run(
         }
         1 => ("strips of short segments".into(), short(checker, of_kind, random)),
         2 => ("refused strips".into(), asked::refusals(checker, random)),
-        _ => ("strips and answers".into(), own_answers(checker, random)),
+        _ => ("strips and answers".into(), own_answers(checker, of_kind, random)),
     }
 }
 
@@ -56,23 +55,29 @@ fn short(checker: &mut Checker, turn: usize, random: &mut Random) -> Result<(), 
     asked::in_any_columns(checker, &known, random)
 }
 
-/// Each check on the core's own answers, of a few blocks each.
-fn own_answers(checker: &mut Checker, random: &mut Random) -> Result<(), Difference> {
+/// Each check on the core's own answers, of a few blocks each; at some turns of a long one too.
+fn own_answers(checker: &mut Checker, turn: usize, random: &mut Random) -> Result<(), Difference> {
     for _ in 0..BLOCKS {
         by_values(checker, random)?;
         by_columns(checker, random)?;
         by_pairs(checker, random)?;
         by_cuts(checker, random)?;
     }
+    if turn % LONG_EVERY == FIRST_LONG {
+        let asked = Asked::any(drawn::long(random).draft, random);
+        answers::check_values(checker, &asked, random)?;
+        answers::check_columns(checker, &asked, random)?;
+        answers::check_pairs(checker, &asked, random)?;
+        answers::check_cuts(checker, &asked, random)?;
+    }
     Ok(())
 }
 
-/// A segment of a right block: of known samples, seldom a long one, or of any shape.
+/// A segment of a right block, of known samples or of any shape.
 fn any_asked(random: &mut Random) -> Asked {
-    let draft = match random.below(LONG_ONCE_IN) {
-        0 => drawn::long(random).draft,
-        1..=49 => drawn::any_known(random).draft,
-        _ => drawn::any(random),
+    let draft = match random.once_in(2) {
+        true => drawn::any_known(random).draft,
+        false => drawn::any(random),
     };
     Asked::any(draft, random)
 }

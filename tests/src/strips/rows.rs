@@ -4,8 +4,9 @@
 use crate::random::Random;
 use crate::samples::{self, rail};
 
-/// The kinds of rows, which take turns.
+/// The kinds of rows, which take turns, and the one that has the same sample at the rail everywhere.
 pub const KINDS: usize = 9;
+pub const ALIKE: usize = 5;
 
 /// So many samples of a kind; where one place counts it is this one.
 pub fn of_kind(
@@ -21,7 +22,7 @@ pub fn of_kind(
         2 => ties(width, points, place, random),
         3 => samples::one(random, width, points, place),
         4 => rail_about(width, points, place, random),
-        5 => vec![random.pick(&rail(width)); points],
+        ALIKE => vec![random.pick(&rail(width)); points],
         6 => samples::all(random, width, points),
         7 => samples::pattern(width, points, random),
         _ => samples::segment(random, width, points),
