@@ -1,6 +1,7 @@
 /*
  * Work to be counted: bench lib|c CASE POINTS TIMES does it so many times, on so many points, segments or parts; bench
- * time lib|c CASE POINTS prints the nanoseconds of one; bench stack prints how much stack each call takes.
+ * time lib|c CASE POINTS prints the nanoseconds of one; bench stack prints how much stack each call takes. The case of a
+ * strip has the points of a column behind a colon, as in strip-byte:64.
  */
 #include "blocks.h"
 #include "measured.h"
@@ -13,6 +14,7 @@
 #include <ucontext.h>
 
 static uint8_t *block, *out;
+static size_t columns;
 static double *values;
 static size_t length, samples, points;
 static uint8_t answer[TESSARQUIN_LAYOUT_BYTES];
@@ -27,7 +29,7 @@ static void make(int order, size_t width, size_t segments, size_t in_each, int t
     length = block_bytes(s);
     samples = samples_at(s);
     block = malloc(length);
-    out = malloc(length + 8 * points + 64);
+    out = malloc(length + 16 * points + 64);
     values = malloc(points * sizeof *values);
     if (!block || !out || !values)
         exit(2);
@@ -83,6 +85,21 @@ static void with_flat_samples(size_t width, size_t before)
         memset(block + samples + before * width, 0x7F, width);
 }
 
+/* Samples that no rule foretells, up to half of their range; and where they are clipped, twice as high, cut off at the rail. */
+static void with_noise(int order, size_t width, int clipped)
+{
+    int32_t most = width == 1 ? INT8_MAX : INT16_MAX;
+    uint32_t state = 1;
+    for (size_t k = 0; k < points; k++) {
+        state = state * 1664525u + 1013904223u;
+        int32_t z = (int32_t)(state >> 8) % (most + 1) - most / 2;
+        z = clipped ? 3 * z : z;
+        z = z > most ? most : z < -most - 1 ? -most - 1 : z;
+        for (size_t i = 0; i < width; i++)
+            block[samples + k * width + i] = (uint8_t)(z >> 8 * (order == 0 ? width - 1 - i : i));
+    }
+}
+
 /* ---- the cases */
 
 static uint32_t opened(void) { return tessarquin_open(block, length, answer, sizeof answer); }
@@ -104,6 +121,13 @@ static const double level = 10.0;
 static uint32_t crossed(void) { return tessarquin_crossing(block, length, 1, 1, level, answer, sizeof answer); }
 static uint32_t never_crossed(void) { return crossed() || tessarquin_number(answer, TESSARQUIN_CROSSING_FOUND) != 0; }
 static uint32_t once_crossed(void) { return crossed() || tessarquin_number(answer, TESSARQUIN_CROSSING_FOUND) != 1; }
+
+/* The leasts stand at the start of `out`, and the greatests behind them. */
+static uint32_t drawn(void)
+{
+    size_t bytes = TESSARQUIN_COLUMN_BYTES(columns);
+    return tessarquin_strip(block, length, 1, 1, (uint32_t)columns, out, bytes, out + bytes, bytes, answer, sizeof answer);
+}
 
 static uint32_t cut_by(uint32_t sp, uint32_t to)
 {
@@ -168,6 +192,28 @@ static uint32_t c_float_words_high(void) { same_values_words_high(block + sample
 static uint32_t c_crossed_bytes(void) { return same_crossing_bytes(block + samples, points, gain, offset, level) != points; }
 static uint32_t c_crossed_words_low(void) { return same_crossing_words_low(block + samples, points, gain, offset, level) != points; }
 static uint32_t c_crossed_words_high(void) { return same_crossing_words_high(block + samples, points, gain, offset, level) != points; }
+/* What the strip in C told. */
+static struct same_strip told;
+
+static uint32_t c_drawn_bytes(void) { told = same_strip_bytes(block + samples, points, columns, out, out + 8 * columns); return 0; }
+static uint32_t c_drawn_words_low(void) { told = same_strip_words_low(block + samples, points, columns, out, out + 8 * columns); return 0; }
+static uint32_t c_drawn_words_high(void) { told = same_strip_words_high(block + samples, points, columns, out, out + 8 * columns); return 0; }
+
+/* Whether it is the strip that the call answers: one that is not would be no measure. */
+static int is_same_strip(uint32_t (*c)(void))
+{
+    uint8_t *drawn_by_c = malloc(16 * columns);
+    if (!drawn_by_c || c() != 0)
+        exit(2);
+    memcpy(drawn_by_c, out, 16 * columns);
+    int same = drawn() == 0 && memcmp(drawn_by_c, out, 16 * columns) == 0
+               && told.sum == tessarquin_signed(answer, TESSARQUIN_STRIP_SUM)
+               && told.marks == tessarquin_number(answer, TESSARQUIN_STRIP_MARKS)
+               && told.peak == tessarquin_number(answer, TESSARQUIN_STRIP_PEAK);
+    free(drawn_by_c);
+    return same;
+}
+
 static uint32_t c_walked(void)
 {
     struct same_place place = {samples, 0, (uint32_t)points, 1, 1, 0, 1, gain, offset, 0.25f, -1};
@@ -222,6 +268,12 @@ static const struct work {
     {"crossing-byte", 1, 1, 0, never_crossed, c_crossed_bytes},
     {"crossing-near-low", 1, 2, 0, once_crossed, NULL},
     {"crossing-near-high", 0, 2, 0, once_crossed, NULL},
+    {"strip-word-low", 1, 2, 0, drawn, c_drawn_words_low},
+    {"strip-word-high", 0, 2, 0, drawn, c_drawn_words_high},
+    {"strip-byte", 1, 1, 0, drawn, c_drawn_bytes},
+    {"strip-clipped-word-low", 1, 2, 0, drawn, c_drawn_words_low},
+    {"strip-clipped-word-high", 0, 2, 0, drawn, c_drawn_words_high},
+    {"strip-clipped-byte", 1, 1, 0, drawn, c_drawn_bytes},
     {"cut-copy-word", 1, 2, 0, copied, c_copied},
     {"cut-copy-byte", 1, 1, 0, copied, c_copied},
     {"cut-turn", 1, 2, 0, turned, c_turned},
@@ -239,10 +291,12 @@ static const struct work {
     {"join-twice-small", 1, 2, IN_SMALL, unjoined, c_opened},
 };
 
+/* The work of a name, without what stands behind a colon. */
 static const struct work *find(const char *name)
 {
+    size_t bytes = strcspn(name, ":");
     for (size_t i = 0; i < sizeof works / sizeof *works; i++)
-        if (strcmp(works[i].name, name) == 0)
+        if (strlen(works[i].name) == bytes && memcmp(works[i].name, name, bytes) == 0)
             return &works[i];
     fprintf(stderr, "bench: no case %s\n", name);
     exit(2);
@@ -260,6 +314,12 @@ static uint32_t (*prepare(const char *who, const char *name, size_t n))(void)
         with_index_twice(w->order);
     if (strncmp(name, "crossing-", 9) == 0)
         with_flat_samples(w->width, strncmp(name, "crossing-near", 13) == 0 ? 10 : points);
+    if (strncmp(name, "strip-", 6) == 0) {
+        columns = points / strtoul(name + strcspn(name, ":") + 1, NULL, 10);
+        with_noise(w->order, w->width, strncmp(name, "strip-clipped", 13) == 0);
+        if (!is_same_strip(w->c))
+            exit(2);
+    }
     if (strcmp(name, "open-six") == 0)
         with_six_digits();
     if (strcmp(name, "label-full") == 0)
@@ -336,6 +396,8 @@ static void print_stacks(void)
     printf("tessarquin_point %zu\n", touched(one_point) - none);
     printf("tessarquin_fill %zu\n", touched(filled) - none);
     printf("tessarquin_crossing %zu\n", touched(crossed) - none);
+    columns = 3;
+    printf("tessarquin_strip %zu\n", touched(drawn) - none);
     printf("tessarquin_cut %zu\n", touched(by_4) - none);
     printf("tessarquin_combined %zu\n", touched(combined) - none);
     printf("tessarquin_narrow %zu\n", touched(narrowed) - none);

@@ -125,6 +125,84 @@ size_t same_crossing_words_high(const uint8_t *samples, size_t n, float gain, fl
     return k;
 }
 
+/* ---- strips, written once and compiled for each type and order */
+
+#define FOR_EACH static inline __attribute__((always_inline))
+
+FOR_EACH int16_t sample_at(const uint8_t *samples, size_t k, size_t width, int turned)
+{
+    if (width == 1)
+        return (int8_t)samples[k];
+    uint16_t n = word(samples + 2 * k);
+    return (int16_t)(turned ? __builtin_bswap16(n) : n);
+}
+
+static void put_signed(uint8_t *at, int64_t z)
+{
+    uint64_t n = __builtin_bswap64((uint64_t)z);
+    memcpy(at, &n, sizeof n);
+}
+
+/* The points from `from` up to `to`, at most 4,096: what is more of the whole, and the least and the greatest of them. */
+FOR_EACH void piece(const uint8_t *samples, size_t from, size_t to, size_t width, int turned, struct same_strip *all, int16_t *top,
+                    int16_t *least, int16_t *greatest)
+{
+    int16_t low = INT16_MAX, high = INT16_MIN;
+    int32_t sum = 0;
+    uint32_t marks = 0;
+    for (size_t k = from; k < to; k++) {
+        int16_t z = sample_at(samples, k, width, turned);
+        low = z < low ? z : low;
+        high = z > high ? z : high;
+        sum += z;
+        marks += width == 1 ? byte_mark((int8_t)z) : word_mark(z);
+    }
+    all->sum += sum;
+    all->marks += marks;
+    if (high > *top || from == 0) {
+        *top = high;
+        for (all->peak = from; sample_at(samples, all->peak, width, turned) != high; all->peak++)
+            ;
+    }
+    *least = low < *least ? low : *least;
+    *greatest = high > *greatest ? high : *greatest;
+}
+
+FOR_EACH struct same_strip strip(const uint8_t *samples, size_t n, size_t columns, size_t width, int turned, uint8_t *least,
+                                 uint8_t *greatest)
+{
+    enum { PIECE = 4096 };
+    struct same_strip all = {0, 0, 0};
+    int16_t top = INT16_MIN;
+    size_t from = 0;
+    for (size_t q = 0; q < columns; q++) {
+        size_t end = (size_t)((uint64_t)(q + 1) * n / columns);
+        int16_t low = INT16_MAX, high = INT16_MIN;
+        for (; end - from > PIECE; from += PIECE)
+            piece(samples, from, from + PIECE, width, turned, &all, &top, &low, &high);
+        piece(samples, from, end, width, turned, &all, &top, &low, &high);
+        put_signed(least + 8 * q, low);
+        put_signed(greatest + 8 * q, high);
+        from = end;
+    }
+    return all;
+}
+
+struct same_strip same_strip_bytes(const uint8_t *samples, size_t n, size_t columns, uint8_t *least, uint8_t *greatest)
+{
+    return strip(samples, n, columns, 1, 0, least, greatest);
+}
+
+struct same_strip same_strip_words_low(const uint8_t *samples, size_t n, size_t columns, uint8_t *least, uint8_t *greatest)
+{
+    return strip(samples, n, columns, 2, 0, least, greatest);
+}
+
+struct same_strip same_strip_words_high(const uint8_t *samples, size_t n, size_t columns, uint8_t *least, uint8_t *greatest)
+{
+    return strip(samples, n, columns, 2, 1, least, greatest);
+}
+
 void same_keep(const uint8_t *restrict samples, size_t n, size_t step, uint8_t *restrict out)
 {
     for (size_t k = 0; k < n; k += step, out += 2)

@@ -17,6 +17,19 @@ size_t same_crossing_bytes(const uint8_t *samples, size_t n, float gain, float o
 size_t same_crossing_words_low(const uint8_t *samples, size_t n, float gain, float offset, double level);
 size_t same_crossing_words_high(const uint8_t *samples, size_t n, float gain, float offset, double level);
 
+/*
+ * n samples in so many columns: the least and the greatest of each, eight bytes each, the high byte first, and of all samples
+ * the sum, how many stand at the rail and the first that is the greatest. One pass, in pieces of which a sum fits 32 bits.
+ */
+struct same_strip {
+    int64_t sum;
+    uint32_t marks;
+    size_t peak;
+};
+struct same_strip same_strip_bytes(const uint8_t *samples, size_t n, size_t columns, uint8_t *least, uint8_t *greatest);
+struct same_strip same_strip_words_low(const uint8_t *samples, size_t n, size_t columns, uint8_t *least, uint8_t *greatest);
+struct same_strip same_strip_words_high(const uint8_t *samples, size_t n, size_t columns, uint8_t *least, uint8_t *greatest);
+
 /* Every step-th of n words, as it is or with its two bytes changed over; and n bytes as they are. */
 void same_keep(const uint8_t *samples, size_t n, size_t step, uint8_t *out);
 void same_turn(const uint8_t *samples, size_t n, size_t step, uint8_t *out);

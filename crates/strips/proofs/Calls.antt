@@ -1,5 +1,5 @@
 -- What the calls answer: the samples where they stand are the segment's (`drawn-strip`); refused calls (`refused`, `left-alone`) and one that is not (`drawn-is`, `left-is`), and the number read back (`drawn-number`). Last, by the
--- contracts: one answer for one input (`strip-determined`, `bytes-determined`), and for the same payload under another accepted header (`call-same`).
+-- contract: one answer for one input (`strip-determined`), and for the same payload under another accepted header (`call-same`).
 use mathlib.Core.Path.{_≡_, refl, sym, ap, ap₂, _∙_, subst}
 use mathlib.Core.List.{List}
 use Prim.Native.Nat.{ℕ, zero, suc, _+_, _*_, _/_, _≤_, _<_}
@@ -27,7 +27,6 @@ use Rattle.strips.specs.Answers.{refusedStrip, drawnBy, drawnAs, leftWit
 use Rattle.strips.proofs.Refusals.{strip-refusal}
 use Rattle.strips.proofs.Strips.{accepted, points-asked, some-columns, most-columns, points-most, strip-same}
 use Rattle.strips.proofs.strip.Reads as strip-reads
-use Rattle.strips.proofs.strip_bytes.Reads as bytes-reads
 
 -- ---- a strip that is not refused
 
@@ -77,7 +76,7 @@ module _ (s : List ℕ) (a n w low high m : ℕ) (e : m ≡ stripRefusal s a n w
       go zero h = absurd (h refl)
       go (suc m) h = refl
 
-  pub left-alone : {A : Type 0} (xs out : List A) → out ≡ leftWith (stripRefusal s a n w low high) xs out
+  pub left-alone : (xs out : List ℤ) → out ≡ leftWith (stripRefusal s a n w low high) xs out
   left-alone xs out = go m h ∙ ap (λ (k : ℕ). leftWith k xs out) e
     where
       go : (m : ℕ) → (m ≡ 0 → ⊥) → out ≡ leftWith m xs out
@@ -90,7 +89,7 @@ module _ (s : List ℕ) (a n w low high : ℕ) (e : stripRefusal s a n w low hig
   unfolding drawnAs
   drawn-is = ap (λ (k : ℕ). drawnBy k (stripOf (opened s) a n w)) (sym e)
 
-  pub left-is : {A : Type 0} (xs out : List A) → over out 0 xs ≡ leftWith (stripRefusal s a n w low high) xs out
+  pub left-is : (xs out : List ℤ) → over out 0 xs ≡ leftWith (stripRefusal s a n w low high) xs out
   left-is xs out = ap (λ (k : ℕ). leftWith k xs out) (sym e)
 
 -- what a call answered, read back: its number, and where that is 0 the strip and what it left
@@ -111,18 +110,8 @@ StripCall s a n w least greatest d low high =
     (κs : Lfts 3) × (b : RefT (List ℕ)) × (l : RefT (List ℤ)) × (g : RefT (List ℤ))
     × strip-reads.Learnt κs (holding b s, (a, (n, (w, (holding l least, (holding g greatest, tt)))))) d (holding b s, (a, (n, (w, (holding l low, (holding g high, tt))))))
 
--- the same of `strip_bytes`, with bytes in the two
-abbrev pub BytesCall : List ℕ → ℕ → ℕ → ℕ → List ℕ → List ℕ → Drawn → List ℕ → List ℕ → Type 0
-BytesCall s a n w least greatest d low high =
-    (κs : Lfts 3) × (b : RefT (List ℕ)) × (l : RefT (List ℕ)) × (g : RefT (List ℕ))
-    × bytes-reads.Learnt κs (holding b s, (a, (n, (w, (holding l least, (holding g greatest, tt)))))) d (holding b s, (a, (n, (w, (holding l low, (holding g high, tt))))))
-
-module _ (s : List ℕ) (a n w : ℕ) where
-  pub strip-determined : (least greatest : List ℤ) (d e : Drawn) (x y u v : List ℤ) → StripCall s a n w least greatest d x u → StripCall s a n w least greatest e y v → (d ≡ e) × (x ≡ y) × (u ≡ v)
-  strip-determined least greatest d e x y u v p q = (p .4 .0 ∙ sym (q .4 .0), p .4 .1 .0 ∙ sym (q .4 .1 .0), p .4 .1 .1 ∙ sym (q .4 .1 .1))
-
-  pub bytes-determined : (least greatest : List ℕ) (d e : Drawn) (x y u v : List ℕ) → BytesCall s a n w least greatest d x u → BytesCall s a n w least greatest e y v → (d ≡ e) × (x ≡ y) × (u ≡ v)
-  bytes-determined least greatest d e x y u v p q = (p .4 .0 ∙ sym (q .4 .0), p .4 .1 .0 ∙ sym (q .4 .1 .0), p .4 .1 .1 ∙ sym (q .4 .1 .1))
+pub strip-determined : (s : List ℕ) (a n w : ℕ) (least greatest : List ℤ) (d e : Drawn) (x y u v : List ℤ) → StripCall s a n w least greatest d x u → StripCall s a n w least greatest e y v → (d ≡ e) × (x ≡ y) × (u ≡ v)
+strip-determined s a n w least greatest d e x y u v p q = (p .4 .0 ∙ sym (q .4 .0), p .4 .1 .0 ∙ sym (q .4 .1 .0), p .4 .1 .1 ∙ sym (q .4 .1 .1))
 
 -- the same payload under two accepted headers: the same number, and so the same answer and the same left
 pub same-refusal : (s t : List ℕ) → SameAnswers s t → (a n w low high : ℕ) → stripRefusal t a n w low high ≡ stripRefusal s a n w low high

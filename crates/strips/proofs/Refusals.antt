@@ -88,11 +88,11 @@ module _ (s : List ℕ) (a n w : ℕ) where
       go zero false t = refl
       go (suc k) e t = refl
 
-  pub strip-nowhere : stripRefusal s a n w 0 0 ≡ orElse (beforeRoom s a n w) 13
+  pub strip-nowhere : (high : ℕ) → stripRefusal s a n w 0 high ≡ orElse (beforeRoom s a n w) 13
   unfolding beforeRoom
-  strip-nowhere = strip-rooms 0 0 ∙ (unfold beforeRoom in go (walkRefusal s a n) between refl)
+  strip-nowhere high = strip-rooms 0 high ∙ (unfold beforeRoom in go (walkRefusal s a n) between refl)
     where
-      go : (k : ℕ) (e : Bool) → between ≡ e → orElse (orElse k (cond {A = ℕ} e 0 11)) (cond {A = ℕ} (all (leb w 0 ∷ leb w 0 ∷ [])) 0 13) ≡ orElse (orElse k (cond {A = ℕ} e 0 11)) 13
+      go : (k : ℕ) (e : Bool) → between ≡ e → orElse (orElse k (cond {A = ℕ} e 0 11)) (cond {A = ℕ} (all (leb w 0 ∷ leb w high ∷ [])) 0 13) ≡ orElse (orElse k (cond {A = ℕ} e 0 11)) 13
       go (suc k) e q = refl
       go zero false q = refl
-      go zero true q = ap (λ (t : Bool). cond {A = ℕ} (t && (t && true)) 0 13) (lt-leb w 0 (leb-true 1 w (and-true (leb 1 w) (leb w (points (opened s .head)) && true) q .0)))
+      go zero true q = ap (λ (t : Bool). cond {A = ℕ} (t && (leb w high && true)) 0 13) (lt-leb w 0 (leb-true 1 w (and-true (leb 1 w) (leb w (points (opened s .head)) && true) q .0)))

@@ -1,6 +1,6 @@
--- What a strip answers, and what it leaves in the two slices that it was lent, as numbers or as bytes. Definitions only.
+-- What a strip answers, and what it leaves in the two slices that it was lent; and its numbers as bytes. Definitions only.
 use mathlib.Core.Path.{_≡_}
-use Prim.Native.Nat.{ℕ, zero, suc, _-_, _/_, _^_}
+use Prim.Native.Nat.{ℕ, zero, suc, _-_, _^_}
 use mathlib.Core.List.{List, map}
 use lib.IntN.{ℤ, pos, negsuc}
 use lib.ListN.{length}
@@ -25,10 +25,9 @@ unfoldable pub drawnAs : List ℕ → ℕ → ℕ → ℕ → ℕ → ℕ → Dr
 drawnAs s a n w low high = drawnBy (stripRefusal s a n w low high) (stripOf (opened s) a n w)
 
 -- a slice afterwards: written over from its start, and as it was where the call is refused
-module _ {A : Type 0} where
-  abbrev pub leftWith : ℕ → List A → List A → List A
-  leftWith zero xs out = over out 0 xs
-  leftWith (suc n) xs out = out
+abbrev pub leftWith : ℕ → List ℤ → List ℤ → List ℤ
+leftWith zero zs out = over out 0 zs
+leftWith (suc n) zs out = out
 
 unfoldable pub leastsLeft : List ℕ → ℕ → ℕ → ℕ → List ℤ → ℕ → List ℤ
 leastsLeft s a n w out high = leftWith (stripRefusal s a n w (length out) high) (stripOf (opened s) a n w .leasts) out
@@ -45,12 +44,6 @@ unsigned w (negsuc n) = 256 ^ w - suc n
 
 abbrev pub signedBytes : List ℤ → List ℕ
 signedBytes zs = allBytes 0 8 (map (unsigned 8) zs)
-
-unfoldable pub leastBytesLeft : List ℕ → ℕ → ℕ → ℕ → List ℕ → ℕ → List ℕ
-leastBytesLeft s a n w out high = leftWith (stripRefusal s a n w (length out / 8) (high / 8)) (signedBytes (stripOf (opened s) a n w .leasts)) out
-
-unfoldable pub greatestBytesLeft : List ℕ → ℕ → ℕ → ℕ → ℕ → List ℕ → List ℕ
-greatestBytesLeft s a n w low out = leftWith (stripRefusal s a n w (low / 8) (length out / 8)) (signedBytes (stripOf (opened s) a n w .greatests)) out
 
 -- ---- what the helpers hand on
 

@@ -42,8 +42,33 @@ pub(crate) fn draw(
     t
 }
 
-// Each column's numbers at the start of lows and of highs, eight bytes each.
+// Each column's numbers at the start of lows and of highs, eight bytes each. A byte is the same number in every order. The two sizes have a call
+// each: so the compiler keeps the loop as a function of its own, and what that takes of the stack is not there while the block is opened.
 pub(crate) fn put(
+    block: &[u8],
+    from: usize,
+    count: usize,
+    size: usize,
+    order: u32,
+    columns: usize,
+    lows: &mut [u8],
+    highs: &mut [u8],
+) -> Tally
+    requires { ⌜ Holds (now block) from count size ⌝ }
+    requires { ⌜ (1 ≤ columns) × (columns ≤ count) × (count ≤ 16777216) ⌝ }
+    requires { ⌜ (columns * 8 ≤ length (now lows)) × (columns * 8 ≤ length (now highs)) ⌝ }
+    ensures { λ r. ⌜ Seen size (sampleAt order size (now (block .entry)) from) count r ⌝ }
+    ensures { λ _. ⌜ now (lows .exit) ≡ over (now (lows .entry)) 0 (signedBytes (columnsOf lesser (sampleAt order size (now (block .entry)) from) count columns)) ⌝ }
+    ensures { λ _. ⌜ now (highs .exit) ≡ over (now (highs .entry)) 0 (signedBytes (columnsOf greater (sampleAt order size (now (block .entry)) from) count columns)) ⌝ }
+{
+    if size == 1 {
+        return put_each(block, from, count, 1, 0, columns, lows, highs);
+    }
+    put_each(block, from, count, 2, order, columns, lows, highs)
+}
+
+// The columns' numbers, one column after the other.
+fn put_each(
     block: &[u8],
     from: usize,
     count: usize,

@@ -1,21 +1,23 @@
 // A segment in so many columns, to be drawn: refusals 1 to 8, 20, 9, 10, 11 and 13, then the least and the greatest sample of each column; and of
 // all samples their sum, how many stand at the rail, and the first point that holds the greatest.
+mod bytes;
 mod drawing;
 mod signs;
 
 use block::Opened;
+pub use bytes::put_columns;
 pub use signs::unsigned;
 use tallies::Tally;
 ghost use mathlib.Core.Path.{_≡_};
 ghost use mathlib.Core.List.{List};
-ghost use Prim.Native.Nat.{ℕ, _/_, _≤_};
+ghost use Prim.Native.Nat.{ℕ, _≤_};
 ghost use lib.ListN.{length};
 ghost use Rattle.rules.specs.Rules.{opened};
 ghost use Rattle.block.specs.Opened.{openedAs};
 ghost use Rattle.fills.specs.Fills.{Holds, sampleAt, over};
 ghost use Rattle.tallies.specs.Tallies.{Seen};
 ghost use Rattle.strips.specs.Strips.{strip as stripIn, stripOf, stripRefusal};
-ghost use Rattle.strips.specs.Answers.{refusedStrip, drawnBy, drawnAs, leastsLeft, greatestsLeft, signedBytes, leastBytesLeft, greatestBytesLeft, Drawable};
+ghost use Rattle.strips.specs.Answers.{refusedStrip, drawnBy, drawnAs, leastsLeft, greatestsLeft, Drawable};
 
 // 0, the sum of all samples, how many stand at the rail, and the first point that holds the greatest; or the number of the refusal and zeros.
 pub struct Drawn {
@@ -46,36 +48,8 @@ pub fn strip(
     columns_of(block, o, array, segment, columns, least, greatest)
 }
 
-// The same with each number as eight bytes, two's complement, the high byte first.
-pub fn strip_bytes(
-    block: &[u8],
-    array: u32,
-    segment: u32,
-    columns: u32,
-    least: &mut [u8],
-    greatest: &mut [u8],
-) -> Drawn
-    ensures { λ r. ⌜ r ≡ drawnAs (now (block .entry)) array segment columns (length (now (least .entry)) / 8) (length (now (greatest .entry)) / 8) ⌝ }
-    ensures { λ _. ⌜ now (least .exit) ≡ leastBytesLeft (now (block .entry)) array segment columns (now (least .entry)) (length (now (greatest .entry))) ⌝ }
-    ensures { λ _. ⌜ now (greatest .exit) ≡ greatestBytesLeft (now (block .entry)) array segment columns (length (now (least .entry))) (now (greatest .entry)) ⌝ }
-{
-    let o = block::open(block);
-    let number = judged(
-        o,
-        array,
-        segment,
-        columns,
-        least.len() / 8,
-        greatest.len() / 8,
-    );
-    if number != 0 {
-        return refused(number);
-    }
-    column_bytes_of(block, o, array, segment, columns, least, greatest)
-}
-
-// The number of a strip's refusal, with room for so many leasts and greatests, or 0.
-fn judged(o: Opened, array: u32, segment: u32, columns: u32, low: usize, high: usize) -> u32
+// The number of the refusal of a strip of an opened block, with room for so many leasts and greatests, or 0.
+pub fn judged(o: Opened, array: u32, segment: u32, columns: u32, low: usize, high: usize) -> u32
     ensures { λ r. ⌜ ((s : List ℕ) → o ≡ openedAs s → r ≡ stripRefusal s array segment columns low high) ⌝ }
 {
     if o.refusal != 0 {
@@ -114,29 +88,6 @@ fn columns_of(
     let size = o.kind as usize + 1;
     let w = columns as usize;
     let t = drawing::draw(block, from, count, size, o.order, w, least, greatest);
-    told(block, from, count, size, o.order, t)
-}
-
-// A strip in bytes that is not refused.
-fn column_bytes_of(
-    block: &[u8],
-    o: Opened,
-    array: u32,
-    segment: u32,
-    columns: u32,
-    least: &mut [u8],
-    greatest: &mut [u8],
-) -> Drawn
-    requires { ⌜ Drawable (now block) o array segment columns (length (now least) / 8) (length (now greatest) / 8) ⌝ }
-    ensures { λ r. ⌜ r ≡ drawnBy 0 (stripOf (opened (now (block .entry))) array segment columns) ⌝ }
-    ensures { λ _. ⌜ now (least .exit) ≡ over (now (least .entry)) 0 (signedBytes (stripOf (opened (now (block .entry))) array segment columns .leasts)) ⌝ }
-    ensures { λ _. ⌜ now (greatest .exit) ≡ over (now (greatest .entry)) 0 (signedBytes (stripOf (opened (now (block .entry))) array segment columns .greatests)) ⌝ }
-{
-    let from = points::samples_from(o, array, segment);
-    let count = o.points as usize;
-    let size = o.kind as usize + 1;
-    let w = columns as usize;
-    let t = drawing::put(block, from, count, size, o.order, w, least, greatest);
     told(block, from, count, size, o.order, t)
 }
 

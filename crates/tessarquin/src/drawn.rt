@@ -1,7 +1,9 @@
 // A segment in columns, to be drawn, for a host in C.
 ghost use mathlib.Core.Path.{_≡_};
+ghost use mathlib.Core.Bool.{cond};
+ghost use Prim.Native.Nat.{ℕ, _/_};
+ghost use lib.Dec.{ltb};
 ghost use lib.ListN.{length};
-ghost use Rattle.strips.specs.Strips.{stripRefusal};
 ghost use Rattle.tessarquin.specs.Calls.{stripNumber, leastLeft, greatestLeft, stripAnswerLeft};
 
 // A segment of an array in so many columns: the least sample of each to least, the greatest to greatest; the sum of all samples, how many stand at
@@ -21,13 +23,13 @@ pub extern "C" fn tessarquin_strip(
     ensures { λ _. ⌜ now (greatest .exit) ≡ greatestLeft (now (block .entry)) array segment columns (length (now (least .entry))) (now (greatest .entry)) (length (now (answer .entry))) ⌝ }
     ensures { λ _. ⌜ now (answer .exit) ≡ stripAnswerLeft (now (block .entry)) array segment columns (length (now (least .entry))) (length (now (greatest .entry))) (now (answer .entry)) ⌝ }
 {
-    if answer.len() < 24 {
-        return strip_nowhere(block, array, segment, columns);
+    let o = block::open(block);
+    let low = room_for(least.len(), answer.len());
+    let number = strips::judged(o, array, segment, columns, low, greatest.len() / 8);
+    if number != 0 {
+        return number;
     }
-    let d = strips::strip_bytes(block, array, segment, columns, least, greatest);
-    if d.refusal != 0 {
-        return d.refusal;
-    }
+    let d = strips::put_columns(block, o, array, segment, columns, least, greatest);
     crate::put_three(
         strips::unsigned(d.sum),
         d.marks as u64,
@@ -37,12 +39,12 @@ pub extern "C" fn tessarquin_strip(
     0
 }
 
-// The number of a strip that has nowhere to go: never 0.
-fn strip_nowhere(block: &[u8], array: u32, segment: u32, columns: u32) -> u32
-    ensures { λ r. ⌜ r ≡ stripRefusal (now (block .entry)) array segment columns 0 0 ⌝ }
+// How many numbers there is room for in a slice of so many bytes: none where the answer has no room.
+fn room_for(slice: usize, answer: usize) -> usize
+    ensures { λ r. ⌜ r ≡ cond (ltb answer 24) 0 (slice / 8) ⌝ }
 {
-    let mut least = [0u8; 0];
-    let mut greatest = [0u8; 0];
-    let d = strips::strip_bytes(block, array, segment, columns, &mut least, &mut greatest);
-    d.refusal
+    if answer < 24 {
+        return 0;
+    }
+    slice / 8
 }

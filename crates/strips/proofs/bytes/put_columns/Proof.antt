@@ -14,8 +14,8 @@ use Rattle.strips.specs.Answers.{drawnBy, signedBytes}
 use Rattle.strips.proofs.Strips.{room}
 use Rattle.strips.proofs.Calls.{lent, counts, holds, drawn-strip}
 use borrow.Author.Needs.{needs}
-use Rattle.strips.proofs.column_bytes_of.Statement.{statement}
-use Rattle.strips.proofs.column_bytes_of.Tie as tie
+use Rattle.strips.proofs.bytes.put_columns.Statement.{statement}
+use Rattle.strips.proofs.bytes.put_columns.Tie as tie
 
 -- every element of a slice is a byte
 bytes : (c : tie.After-shared-slice-known) → Bytes (c .before .args .block .now)
@@ -81,8 +81,8 @@ returns c =
       ),
     )
 
-pub column-bytes-of-spec : {M : Type 1} → statement M
-column-bytes-of-spec =
+pub put-columns-spec : {M : Type 1} → statement M
+put-columns-spec =
     tie.close
     (tie.spec
     samples-from-requires
