@@ -117,6 +117,44 @@ pub fn finds(name: &[u8], samples: &[u8; 8], order: u16, gain: u32, level: f64) 
     }
 }
 
+// Draws a segment in so many columns, with room for two leasts and two greatests.
+pub fn draws(name: &[u8], shape: u32, array: u32, segment: u32, columns: u32) {
+    let mut block = [0u8; 512];
+    blocks::make(shape, &mut block);
+    let slice = 11 + blocks::payload(shape) as usize;
+    let mut least = [0i16; 2];
+    let mut greatest = [0i16; 2];
+    let d = strips::strip(
+        first(&block, slice),
+        array,
+        segment,
+        columns,
+        &mut least,
+        &mut greatest,
+    );
+    print(d.refusal, name);
+}
+
+// Draws the example in so many columns, with room for two leasts and one greatest.
+pub fn draws_short(name: &[u8], columns: u32) {
+    let mut block = [0u8; 512];
+    blocks::make(0, &mut block);
+    let mut least = [0i16; 2];
+    let mut greatest = [0i16; 1];
+    let d = strips::strip(first(&block, 359), 1, 1, columns, &mut least, &mut greatest);
+    print(d.refusal, name);
+}
+
+// Draws a block with these words in so many columns: the first point that holds the greatest.
+pub fn peaks(name: &[u8], samples: &[u8; 12], order: u16, columns: u32) {
+    let mut block = [0u8; 512];
+    blocks::make_of(samples, 1, order, &mut block);
+    let mut least = [0i16; 6];
+    let mut greatest = [0i16; 6];
+    let d = strips::strip(first(&block, 369), 1, 1, columns, &mut least, &mut greatest);
+    print_in(order, d.peak, name);
+}
+
 // Narrows a block with these samples and this gain to so many bytes.
 pub fn narrows(name: &[u8], samples: &[u8], kind: u16, order: u16, gain: u32, room: usize)
     requires { ⌜ length (now samples) ≤ 12 ⌝ }
