@@ -1,11 +1,11 @@
 -- Columns: each point is in one and no other (`one-column`), and none is empty (`start-grows`). So the least of the columns' leasts is that of all samples
 -- (`columns-joined`), and joining neighbours gives the columns of half as many (`pairs-columns`); the same of greatests.
 use mathlib.Core.Path.{_≡_, refl, sym, ap, ap₂, _∙_}
-use Prim.Native.Nat.{ℕ, zero, suc, _+_, _-_, _*_, _/_, _≤_, _<_}
+use Prim.Native.Nat.{ℕ, zero, suc, _+_, _*_, _/_, _≤_, _<_}
 use native.Mathlib.Nat.{le-trans, zero-mul, suc-mul, zero-div, mul-right-comm, mul-le-mul-right, div-mul-le-self, le-div-iff-mul-le, mul-div-right, mul-div-mul-right}
 use native.Mathlib.Omega.{arith}
 use mathlib.Core.Bool.{Bool, true, false}
-use mathlib.Core.List.{List, [], _∷_, _++_, map, flatten, map-map}
+use mathlib.Core.List.{List, _∷_, _++_, map, flatten, map-map}
 use lib.ListN.{length}
 use lib.Dec.{leb, ltb}
 use lib.IntN.{ℤ}

@@ -1,8 +1,8 @@
 -- What accepted calls of `strip` answer and leave, by their contract: its number is that of the rules, its three numbers and what it wrote are those of the strip
 -- (`strip-told`, `strip-wrote`); the least of all leasts is the segment's, and the greatest likewise (`least-of-all`, `greatest-of-all`); and where W is even, the
 -- call for W/2 answers the same and leaves the neighbouring pairs joined (`half-call`).
-use mathlib.Core.Path.{_≡_, refl, sym, ap, ap₂, _∙_, subst}
-use mathlib.Core.List.{List, [], _++_}
+use mathlib.Core.Path.{_≡_, sym, ap, _∙_}
+use mathlib.Core.List.{List}
 use Prim.Native.Nat.{ℕ, _+_, _/_, _%_}
 use lib.IntN.{ℤ}
 use lib.ListN.{length, take, drop}
@@ -10,11 +10,10 @@ use lib.Seq.{take-at}
 use Rattle.rules.specs.Wave.{points}
 use Rattle.rules.specs.Rules.{opened}
 use Rattle.rules.specs.Points.{sample}
-use Rattle.fills.specs.Fills.{over}
 use Rattle.columns.specs.Columns.{lesser, greater, least, greatest, run, pairs}
 use Rattle.strips.specs.declared.Drawn.{Drawn}
 use Rattle.strips.specs.Strips.{Strip, stripOf, halved, stripRefusal}
-use Rattle.strips.specs.Answers.{drawnBy, drawnAs, leftWith, leastsLeft, greatestsLeft}
+use Rattle.strips.specs.Answers.{drawnBy, leastsLeft, greatestsLeft}
 use Rattle.strips.proofs.Strips.{strip-count, strip-least, strip-greatest, strip-halved, half-accepted}
 use Rattle.strips.proofs.Calls.{StripCall, drawn-is, left-is, drawn-number}
 

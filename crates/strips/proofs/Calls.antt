@@ -1,8 +1,8 @@
 -- What the calls answer: the samples where they stand are the segment's (`drawn-strip`); refused calls (`refused`, `left-alone`) and one that is not (`drawn-is`, `left-is`), and the number read back (`drawn-number`). Last, by the
 -- contract: one answer for one input (`strip-determined`), and for the same payload under another accepted header (`call-same`).
-use mathlib.Core.Path.{_≡_, refl, sym, ap, ap₂, _∙_, subst}
+use mathlib.Core.Path.{_≡_, refl, sym, ap, ap₂, _∙_}
 use mathlib.Core.List.{List}
-use Prim.Native.Nat.{ℕ, zero, suc, _+_, _*_, _/_, _≤_, _<_}
+use Prim.Native.Nat.{ℕ, zero, suc, _+_, _≤_, _<_}
 use native.Mathlib.Omega.{arith}
 use lib.IntN.{ℤ}
 use lib.ListN.{length}

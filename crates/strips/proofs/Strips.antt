@@ -6,20 +6,19 @@ use mathlib.Core.Path.{_≡_, refl, sym, ap, ap₂, _∙_, subst}
 use Prim.Native.Nat.{ℕ, zero, suc, _+_, _-_, _*_, _/_, _%_, _^_, _≤_, _<_}
 use native.Mathlib.Nat.{lt-of-lt-of-le, mul-le-mul-left, div-le-self}
 use native.Mathlib.Omega.{arith}
-use mathlib.Core.Bool.{Bool, true, false, cond, false≢true}
-use mathlib.Core.List.{List, [], _∷_, _++_, map, append-assoc}
+use mathlib.Core.Bool.{Bool, true, cond, false≢true}
+use mathlib.Core.List.{List, [], _++_, map}
 use mathlib.Core.Option.{Option, none, some}
 use lib.ListN.{length, getD, length-map}
-use lib.Dec.{T, leb, lit≤}
-use lib.IntN.{ℤ, pos, natAbs}
+use lib.Dec.{T, lit≤}
+use lib.IntN.{ℤ, pos}
 use lib.Signed.{leZ, mag}
-use borrow.Author.Tests.{ltb-true, ltb-false, leb-true, le-leb}
+use borrow.Author.Tests.{leb-true, le-leb}
 use Rattle.rules.specs.Numbers.{Bytes, equal, upFrom}
-use Rattle.rules.specs.Wave.{Wave, sizeOf, segments, points, arrayCount}
+use Rattle.rules.specs.Wave.{sizeOf, segments, points, arrayCount}
 use Rattle.rules.specs.Rules.{first, rules, refusal, opened}
-use Rattle.rules.specs.Cut.{orElse}
-use Rattle.rules.specs.Points.{array, sample, markCountOf, markCount, segmentRules, walkRefusal, pointRefusal}
-use Rattle.rules.proofs.Tests.{Held, first-held, held-first, held-append, held-left, held-right, first-append, numbered-append}
+use Rattle.rules.specs.Points.{array, sample, markCountOf, markCount, segmentRules, pointRefusal}
+use Rattle.rules.proofs.Tests.{Held, first-held, held-first, held-append, held-left, held-right, numbered-append}
 use Rattle.rules.proofs.Opened.{obeys, rules-numbered, good-opened, sized-opened, length-payload}
 use Rattle.rules.proofs.Thin.{length-upFrom, getD-upFrom}
 use Rattle.rules.proofs.Asked.{signed-fits, raw-below}
@@ -29,10 +28,10 @@ use Rattle.points.proofs.Refusals.{segment-points}
 use Rattle.points.proofs.Fillings.{map-up}
 use Rattle.crossings.specs.Crossings.{firstFrom}
 use Rattle.crossings.specs.Answers.{First}
-use Rattle.crossings.proofs.Firsts.{at-found, found-at, none-found}
+use Rattle.crossings.proofs.Firsts.{at-found, none-found}
 use Rattle.columns.specs.Columns.{lesser, greater, joined, least, greatest, sumOf, run, start, InColumn, column, columns}
 use Rattle.columns.proofs.Extremes.{Picks, picks-lesser, picks-greater, geZ}
-use Rattle.columns.proofs.Runs.{run-length, run-first, run-is}
+use Rattle.columns.proofs.Runs.{run-first, run-is}
 use Rattle.columns.proofs.Columns.{one-column, start-mono, start-end, start-grows, columns-joined, pairs-columns}
 use Rattle.strips.proofs.Telling.{sum-fits}
 use Rattle.strips.specs.Strips.{Strip, orZero, peakOf, strip, stripOf, halved, stripRules, stripRefusal}

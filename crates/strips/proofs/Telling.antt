@@ -2,15 +2,13 @@
 -- greatest (`peak-is`), which is not looked for before it can be (`none-before`).
 use mathlib.Core.Path.{_≡_, refl, sym, ap, ap₂, _∙_, subst}
 use Prim.Native.Nat.{ℕ, suc, _+_, _-_, _*_, _^_, _≤_, _<_}
-use native.Mathlib.Nat.{le-trans, lt-of-le-of-lt, lt-of-lt-of-le, mul-le-mul-left, mul-le-mul-right}
+use native.Mathlib.Nat.{le-trans, lt-of-le-of-lt, mul-le-mul-left, mul-le-mul-right}
 use native.Mathlib.Numerals.{add-one}
 use native.Mathlib.Omega.{arith}
 use mathlib.Core.Bool.{Bool, true, false, _&&_, false≢true}
-use mathlib.Core.List.{List, _∷_}
-use mathlib.Core.Option.{some}
-use lib.Dec.{T, ltb, lit<, lit≤}
-use lib.IntN.{ℤ, pos, negsuc, natAbs, _-ℤ_}
-use lib.ListN.{length, getD}
+use lib.Dec.{T, ltb, lit<}
+use lib.IntN.{ℤ, pos, natAbs, _-ℤ_}
+use lib.ListN.{getD}
 use lib.Signed.{leZ, mag, natAbs-le}
 use mir.Syntax.{w64}
 use mir.Val.{SFits, toZ}
@@ -22,10 +20,9 @@ use Rattle.rules.proofs.Tests.{and-true, and-intro}
 use Rattle.fills.proofs.Sampling.{mag-le}
 use Rattle.fills.proofs.Marking.{equal-refl, equal-same}
 use Rattle.levels.specs.Levels.{between}
-use Rattle.crossings.specs.Crossings.{firstFrom}
 use Rattle.crossings.specs.Answers.{First}
 use Rattle.crossings.proofs.Firsts.{found-at, agreeing}
-use Rattle.columns.specs.Columns.{lesser, greater, joined, greatest, sumOf, run, start}
+use Rattle.columns.specs.Columns.{greater, greatest, sumOf, run, start}
 use Rattle.columns.proofs.Order.{leZ-refl, leZ-antisymm}
 use Rattle.columns.proofs.Extremes.{picks-greater, geZ}
 use Rattle.columns.proofs.Sums.{sum-small}

@@ -1,10 +1,10 @@
 -- No sample is at the rail where neither the least nor the greatest of them is (`none-there`).
 use mathlib.Core.Path.{_≡_, refl, sym, ap, _∙_, subst}
-use mathlib.Core.Logic.{_⊎_, ⊎-elim}
+use mathlib.Core.Logic.{_⊎_}
 use Prim.Native.Nat.{ℕ, zero, suc, _+_, _-_, _/_, _^_, _≤_, _<_}
 use native.Mathlib.Omega.{arith}
 use mathlib.Core.Bool.{Bool, true, false, _||_, true≢false}
-use mathlib.Core.List.{List, map}
+use mathlib.Core.List.{map}
 use lib.Dec.{T, le→leb}
 use lib.IntN.{ℤ, pos, negsuc, negℤ}
 use lib.Signed.{leZ, mag}
@@ -13,7 +13,6 @@ use Rattle.rules.specs.Points.{atRail, markNumber, markCountOf}
 use Rattle.rules.proofs.Tests.{or-says, says-or}
 use Rattle.fills.proofs.Marking.{equal-same}
 use Rattle.columns.specs.Columns.{lesser, greater, joined, least, greatest, run}
-use Rattle.columns.proofs.Order.{leZ-antisymm}
 use Rattle.columns.proofs.Extremes.{Picks, picks-lesser, picks-greater, geZ}
 use Rattle.columns.proofs.Runs.{run-first, run-is}
 

@@ -2,14 +2,13 @@
 -- `spanned-fresh`), and its numbers fit their types (`next-fits`). Of a column that is not empty its least and greatest are those of the samples
 -- (`least-of`, `greatest-of`).
 use mathlib.Core.Path.{_≡_, refl, sym, ap, ap₂, _∙_, subst}
-use Prim.Native.Nat.{ℕ, zero, suc, _+_, _-_, _*_, _^_, _≤_, _<_}
+use Prim.Native.Nat.{ℕ, suc, _+_, _-_, _^_, _≤_, _<_}
 use native.Mathlib.Nat.{mul-le-mul-right}
 use native.Mathlib.Omega.{arith}
-use mathlib.Core.Bool.{Bool, true, false, cond, not}
-use mathlib.Core.List.{List, [], _∷_, _++_}
+use mathlib.Core.Bool.{Bool, true, false, cond}
+use mathlib.Core.List.{List, _∷_}
 use lib.Dec.{T, le→leb}
 use lib.IntN.{ℤ, pos, negsuc}
-use lib.ListN.{length}
 use lib.Signed.{leZ, ltZ, mag, leZ-yes, ltZ-yes, clashℤ}
 use Rattle.rules.specs.Points.{markCountOf}
 use Rattle.rules.proofs.Marks.{marks-append, marks-few}

@@ -13,7 +13,7 @@ ghost use Rattle.fills.specs.Fills.{Holds, sampleAt};
 ghost use Rattle.tallies.specs.Tallies.{nothing, fresh, together, end, Seen, Spanned};
 
 // Of a column the least and the greatest sample; of all samples so far how far they are above -32,768 together, how many stand at the rail,
-// the greatest, and the number of a sample that none before it reaches the greatest.
+// the greatest, and the number of a sample before which none reaches the greatest.
 pub struct Tally {
     pub least: i16,
     pub greatest: i16,

@@ -1,6 +1,6 @@
 -- What a strip with three slices returns and leaves: its number by the room that there is (`strip-number`), refused (`strip-refused`) or answered
 -- (`strip-answered`), with room for all three (`strip-room`).
-use mathlib.Core.Path.{_≡_, refl, sym, ap, _∙_, subst}
+use mathlib.Core.Path.{_≡_, refl, sym, ap, _∙_}
 use mathlib.Core.Bool.{Bool, true, false, cond}
 use mathlib.Core.List.{List, [], _∷_}
 use Prim.Native.Nat.{ℕ, _/_, _≤_, _<_}

@@ -5,7 +5,7 @@ use native.Mathlib.Omega.{arith}
 use lib.IntN.{ℤ}
 use borrow.Author.Needs.{needs}
 use Rattle.rules.proofs.Numbers.{below-index}
-use Rattle.fills.specs.Fills.{Holds, sampleAt}
+use Rattle.fills.specs.Fills.{sampleAt}
 use Rattle.fills.proofs.Sampling.{in-word}
 use Rattle.columns.specs.Columns.{least, greatest, run}
 use Rattle.tallies.specs.declared.Tally.{Tally}

@@ -1,15 +1,11 @@
 -- The samples' place, the columns, and what is told of all samples.
-use mathlib.Core.Path.{_≡_, ap, _∙_}
-use mathlib.Core.List.{List}
-use Prim.Native.Nat.{ℕ, _+_}
+use mathlib.Core.Path.{ap, _∙_}
 use native.Mathlib.Omega.{arith}
-use lib.ListN.{length}
 use Rattle.rules.specs.Numbers.{Bytes}
-use Rattle.rules.specs.Rules.{opened}
 use Rattle.rules.proofs.Numbers.{below-index}
-use Rattle.fills.specs.Fills.{Holds, sampleAt, over}
+use Rattle.fills.specs.Fills.{over}
 use Rattle.points.proofs.Values.{from-room}
-use Rattle.strips.specs.Strips.{Strip, strip, stripOf}
+use Rattle.strips.specs.Strips.{Strip, strip}
 use Rattle.strips.specs.Answers.{drawnBy, signedBytes}
 use Rattle.strips.proofs.Strips.{room}
 use Rattle.strips.proofs.Calls.{lent, counts, holds, drawn-strip}

@@ -1,12 +1,11 @@
 -- Each turn draws the next column.
 use mathlib.Core.Path.{_≡_, refl, sym, ap, ap₂, _∙_, subst}
 use mathlib.Core.List.{List, map}
-use Prim.Native.Nat.{ℕ, suc, _+_, _-_, _≤_, _<_}
+use Prim.Native.Nat.{ℕ, suc, _-_, _≤_, _<_}
 use native.Mathlib.Omega.{arith}
 use lib.IntN.{ℤ}
 use lib.ListN.{length, length-set}
 use mir.Syntax.{w16}
-use mir.Val.{SFits, toZ, ofZ}
 use mir.ValLaws.{toZ-ofZ}
 use borrow.Author.Needs.{needs}
 use Rattle.rules.specs.Numbers.{upFrom}
@@ -15,7 +14,6 @@ use Rattle.columns.proofs.Columns.{start-zero, start-end}
 use Rattle.fills.specs.Fills.{sampleAt, over}
 use Rattle.fills.proofs.Sampling.{fewer}
 use Rattle.fills.proofs.Writes.{over-none, map-one}
-use Rattle.tallies.specs.declared.Tally.{Tally}
 use Rattle.tallies.specs.Tallies.{Seen}
 use Rattle.tallies.proofs.Tallying.{seen-none}
 use Rattle.strips.proofs.Telling.{ends}

@@ -16,7 +16,6 @@ use Rattle.columns.proofs.Columns.{start-zero, start-end}
 use Rattle.fills.specs.Fills.{sampleAt, over}
 use Rattle.fills.proofs.Sampling.{fewer}
 use Rattle.fills.proofs.Writes.{over-none, run-one}
-use Rattle.tallies.specs.declared.Tally.{Tally}
 use Rattle.tallies.specs.Tallies.{Seen}
 use Rattle.tallies.proofs.Tallying.{seen-none}
 use Rattle.strips.specs.Answers.{unsigned, signedBytes}

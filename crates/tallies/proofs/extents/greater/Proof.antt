@@ -1,10 +1,8 @@
 -- The second where it is at least the first, and else the first.
-use mathlib.Core.Path.{_≡_, sym, ap, ap₂, _∙_}
+use mathlib.Core.Path.{sym, ap, ap₂, _∙_}
 use mathlib.Core.Bool.{Bool, cond}
-use lib.IntN.{ℤ}
 use lib.Signed.{leZ}
 use mir.Syntax.{w16}
-use mir.Val.{toZ, ofZ}
 use mir.ValLaws.{toZ-ofZ}
 use Rattle.columns.specs.Columns.{greater}
 use Rattle.tallies.proofs.extents.greater.Statement.{statement}

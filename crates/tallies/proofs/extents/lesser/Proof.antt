@@ -1,10 +1,8 @@
 -- The first where it is at most the second, and else the second.
-use mathlib.Core.Path.{_≡_, sym, ap, ap₂, _∙_}
+use mathlib.Core.Path.{sym, ap, ap₂, _∙_}
 use mathlib.Core.Bool.{Bool, cond}
-use lib.IntN.{ℤ}
 use lib.Signed.{leZ}
 use mir.Syntax.{w16}
-use mir.Val.{toZ, ofZ}
 use mir.ValLaws.{toZ-ofZ}
 use Rattle.columns.specs.Columns.{lesser}
 use Rattle.tallies.proofs.extents.lesser.Statement.{statement}

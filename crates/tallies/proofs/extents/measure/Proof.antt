@@ -1,6 +1,6 @@
 -- Each turn takes in the next sample; its height by its two bytes.
-use mathlib.Core.Path.{_≡_, refl, sym, ap, ap₂, _∙_}
-use mathlib.Core.List.{List, [], _∷_, _++_}
+use mathlib.Core.Path.{_≡_, sym, ap, _∙_}
+use mathlib.Core.List.{List, [], _∷_}
 use Prim.Native.Nat.{ℕ, _+_, _-_, _*_, _≤_, _<_}
 use native.Mathlib.Omega.{arith}
 use mathlib.Core.Bool.{Bool}
@@ -17,7 +17,7 @@ use Rattle.columns.specs.Columns.{lesser, greater, joined, least, greatest, run
 use Rattle.columns.proofs.Extremes.{Picks, picks-lesser, picks-greater, geZ}
 use Rattle.columns.proofs.Runs.{run-none, run-one}
 use Rattle.tallies.specs.Tallies.{height, heights}
-use Rattle.tallies.proofs.Heights.{Words, bytes-next, height-most}
+use Rattle.tallies.proofs.Heights.{Words, bytes-next}
 use Rattle.tallies.proofs.Tallying.{first-next, least-of, greatest-of}
 use Rattle.tallies.proofs.extents.measure.Statement.{statement}
 use Rattle.tallies.proofs.extents.measure.Tie as tie

@@ -1,6 +1,5 @@
 -- One sample is the least and the greatest of itself.
-use mathlib.Core.Path.{_≡_, sym, ap, _∙_}
-use Prim.Native.Nat.{ℕ, _+_}
+use mathlib.Core.Path.{sym, ap, _∙_}
 use native.Mathlib.Nat.{add-zero}
 use mir.Syntax.{w16}
 use mir.ValLaws.{toZ-ofZ}
