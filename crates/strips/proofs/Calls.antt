@@ -1,4 +1,4 @@
--- What the calls answer: the samples where they stand are the segment's (`drawn-strip`); refused calls (`refused`, `left-alone`) and one that is not (`drawn-is`, `left-is`), and the number read back (`drawn-number`). Last, by the
+-- What the calls answer: the samples where they stand are the segment's (`drawn-strip`); refused calls (`refused`, `kept`) and one that is not (`drawn-is`, `left-is`), and the number read back (`drawn-number`). Last, by the
 -- contract: one answer for one input (`strip-determined`), and for the same payload under another accepted header (`call-same`).
 use mathlib.Core.Path.{_≡_, refl, sym, ap, ap₂, _∙_}
 use mathlib.Core.List.{List}
@@ -6,13 +6,14 @@ use Prim.Native.Nat.{ℕ, zero, suc, _+_, _≤_, _<_}
 use native.Mathlib.Omega.{arith}
 use lib.IntN.{ℤ}
 use lib.ListN.{length}
-use Rattle.rules.specs.Numbers.{Bytes}
+use Rattle.rules.specs.Numbers.{Bytes, unlessRefused}
 use contract.Lifetimes.{Lfts}
 use denote.Ref.{RefT, at-last as holding}
 use Rattle.rules.specs.Wave.{Wave, points, startsOf}
 use Rattle.rules.specs.Rules.{first, opened}
 use Rattle.rules.specs.Cut.{orElse}
 use Rattle.rules.specs.Points.{sample}
+use Rattle.rules.proofs.Tests.{left-alone}
 use Rattle.rules.proofs.Headers.{SameAnswers}
 use Rattle.fills.specs.Fills.{Holds, sampleAt, over}
 use Rattle.block.specs.declared.Opened.{Opened}
@@ -23,7 +24,7 @@ use Rattle.points.proofs.Values.{is, sample-is, kind-small}
 use Rattle.points.proofs.Fillings.{each, put-room}
 use Rattle.strips.specs.Strips.{Strip, strip, stripOf, stripRules, stripRefusal}
 use Rattle.strips.specs.declared.Drawn.{Drawn}
-use Rattle.strips.specs.Answers.{refusedStrip, drawnBy, drawnAs, leftWith, leastsLeft, greatestsLeft, Drawable}
+use Rattle.strips.specs.Answers.{refusedStrip, drawnBy, drawnAs, leastsLeft, greatestsLeft, Drawable}
 use Rattle.strips.proofs.Refusals.{strip-refusal}
 use Rattle.strips.proofs.Strips.{accepted, points-asked, some-columns, most-columns, points-most, strip-same}
 use Rattle.strips.proofs.strip.Reads as strip-reads
@@ -76,12 +77,8 @@ module _ (s : List ℕ) (a n w low high m : ℕ) (e : m ≡ stripRefusal s a n w
       go zero h = absurd (h refl)
       go (suc m) h = refl
 
-  pub left-alone : (xs out : List ℤ) → out ≡ leftWith (stripRefusal s a n w low high) xs out
-  left-alone xs out = go m h ∙ ap (λ (k : ℕ). leftWith k xs out) e
-    where
-      go : (m : ℕ) → (m ≡ 0 → ⊥) → out ≡ leftWith m xs out
-      go zero h = absurd (h refl)
-      go (suc m) h = refl
+  pub kept : (xs out : List ℤ) → out ≡ unlessRefused (stripRefusal s a n w low high) (over out 0 xs) out
+  kept xs out = left-alone m (over out 0 xs) out h ∙ ap (λ (k : ℕ). unlessRefused k (over out 0 xs) out) e
 
 -- of one that is not
 module _ (s : List ℕ) (a n w low high : ℕ) (e : stripRefusal s a n w low high ≡ 0) where
@@ -89,8 +86,8 @@ module _ (s : List ℕ) (a n w low high : ℕ) (e : stripRefusal s a n w low hig
   unfolding drawnAs
   drawn-is = ap (λ (k : ℕ). drawnBy k (stripOf (opened s) a n w)) (sym e)
 
-  pub left-is : (xs out : List ℤ) → over out 0 xs ≡ leftWith (stripRefusal s a n w low high) xs out
-  left-is xs out = ap (λ (k : ℕ). leftWith k xs out) (sym e)
+  pub left-is : (xs out : List ℤ) → over out 0 xs ≡ unlessRefused (stripRefusal s a n w low high) (over out 0 xs) out
+  left-is xs out = ap (λ (k : ℕ). unlessRefused k (over out 0 xs) out) (sym e)
 
 -- what a call answered, read back: its number, and where that is 0 the strip and what it left
 pub drawn-number : (s : List ℕ) (a n w low high : ℕ) → drawnAs s a n w low high .refusal ≡ stripRefusal s a n w low high
@@ -124,6 +121,6 @@ call-same s t h a n w least greatest d e x y u v p q =
     let r = same-refusal s t h a n w (length least) (length greatest) in
     let z : stripOf (opened t) a n w ≡ stripOf (opened s) a n w = ap (λ (o : Wave). stripOf o a n w) (h .same-wave) in (
       q .4 .0 ∙ (λ i. drawnBy (r i) (z i)) ∙ sym (p .4 .0),
-      q .4 .1 .0 ∙ (λ i. leftWith (r i) (z i .leasts) least) ∙ sym (p .4 .1 .0),
-      q .4 .1 .1 ∙ (λ i. leftWith (r i) (z i .greatests) greatest) ∙ sym (p .4 .1 .1),
+      q .4 .1 .0 ∙ (λ i. unlessRefused (r i) (over least 0 (z i .leasts)) least) ∙ sym (p .4 .1 .0),
+      q .4 .1 .1 ∙ (λ i. unlessRefused (r i) (over greatest 0 (z i .greatests)) greatest) ∙ sym (p .4 .1 .1),
     )

@@ -4,7 +4,7 @@ use Prim.Native.Nat.{ℕ, zero, suc, _-_, _^_}
 use mathlib.Core.List.{List, map}
 use lib.IntN.{ℤ, pos, negsuc}
 use lib.ListN.{length}
-use Rattle.rules.specs.Numbers.{allBytes}
+use Rattle.rules.specs.Numbers.{allBytes, unlessRefused}
 use Rattle.rules.specs.Rules.{opened}
 use Rattle.fills.specs.Fills.{over}
 use Rattle.block.specs.declared.Opened.{Opened}
@@ -25,15 +25,11 @@ unfoldable pub drawnAs : List ℕ → ℕ → ℕ → ℕ → ℕ → ℕ → Dr
 drawnAs s a n w low high = drawnBy (stripRefusal s a n w low high) (stripOf (opened s) a n w)
 
 -- a slice afterwards: written over from its start, and as it was where the call is refused
-abbrev pub leftWith : ℕ → List ℤ → List ℤ → List ℤ
-leftWith zero zs out = over out 0 zs
-leftWith (suc n) zs out = out
-
 unfoldable pub leastsLeft : List ℕ → ℕ → ℕ → ℕ → List ℤ → ℕ → List ℤ
-leastsLeft s a n w out high = leftWith (stripRefusal s a n w (length out) high) (stripOf (opened s) a n w .leasts) out
+leastsLeft s a n w out high = unlessRefused (stripRefusal s a n w (length out) high) (over out 0 (stripOf (opened s) a n w .leasts)) out
 
 unfoldable pub greatestsLeft : List ℕ → ℕ → ℕ → ℕ → ℕ → List ℤ → List ℤ
-greatestsLeft s a n w low out = leftWith (stripRefusal s a n w low (length out)) (stripOf (opened s) a n w .greatests) out
+greatestsLeft s a n w low out = unlessRefused (stripRefusal s a n w low (length out)) (over out 0 (stripOf (opened s) a n w .greatests)) out
 
 -- ---- as bytes: eight for each number, two's complement, the high byte first
 

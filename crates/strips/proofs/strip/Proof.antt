@@ -5,7 +5,7 @@ use Rattle.rules.specs.Rules.{opened}
 use lib.ListN.{length}
 use Rattle.strips.specs.Strips.{stripOf}
 use Rattle.strips.specs.Answers.{leastsLeft, greatestsLeft}
-use Rattle.strips.proofs.Calls.{refused, left-alone, drawn-is, left-is}
+use Rattle.strips.proofs.Calls.{refused, kept, drawn-is, left-is}
 use Rattle.strips.proofs.strip.Statement.{statement}
 use Rattle.strips.proofs.strip.Tie as tie
 
@@ -31,8 +31,8 @@ returns c =
     let high = length (a .greatest .now) in (
       c .refused .ensures ∙ refused (a .block .now) (a .array) (a .segment) (a .columns) low high (j .judged .result) e h,
       (
-        left-alone (a .block .now) (a .array) (a .segment) (a .columns) low high (j .judged .result) e h (t .leasts) (a .least .now),
-        left-alone (a .block .now) (a .array) (a .segment) (a .columns) low high (j .judged .result) e h (t .greatests) (a .greatest .now),
+        kept (a .block .now) (a .array) (a .segment) (a .columns) low high (j .judged .result) e h (t .leasts) (a .least .now),
+        kept (a .block .now) (a .array) (a .segment) (a .columns) low high (j .judged .result) e h (t .greatests) (a .greatest .now),
       ),
     )
 
