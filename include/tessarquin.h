@@ -8,20 +8,22 @@
  * starts at byte 2 + d.
  * Whatever stands before the '#' is for the caller to remove.
  *
- * Twelve calls, each proved to meet its description for every input:
+ * Fourteen calls, each proved to meet its description for every input:
  *
- *     tessarquin_open       is this a block that obeys the template, and what is in it?
- *     tessarquin_layout     where do the descriptor and the other parts stand?
- *     tessarquin_user_text  where does the user text stand?
- *     tessarquin_label      where does the label stand, or is there none?
- *     tessarquin_point      one point, in volts and seconds, and whether its sample stands at the rail
- *     tessarquin_fill       all the points of a segment, in volts, and how many samples stand at the rail
- *     tessarquin_crossing   the first point of a segment at or above a level, or that there is none
- *     tessarquin_strip      a segment in so many columns, to be drawn: the least and the greatest sample of each
- *     tessarquin_cut        a smaller block: some segments, every so many-th point, in either byte order
- *     tessarquin_combined   the setup of the one cut that stands for two cuts, or for any number of them
- *     tessarquin_join       one block of the segments that were fetched one by one, in whatever order they arrived
- *     tessarquin_narrow     a block of half the size, less precise: each sample's high byte, and 256 times the gain
+ *     tessarquin_open         is this a block that obeys the template, and what is in it?
+ *     tessarquin_layout       where do the descriptor and the other parts stand?
+ *     tessarquin_user_text    where does the user text stand?
+ *     tessarquin_label        where does the label stand, or is there none?
+ *     tessarquin_point        one point, in volts and seconds, and whether its sample stands at the rail
+ *     tessarquin_fill         all the points of a segment, in volts, and how many samples stand at the rail
+ *     tessarquin_crossing     the first point of a segment at or above a level, or that there is none
+ *     tessarquin_strip        a segment in so many columns, to be drawn: the least and the greatest sample of each
+ *     tessarquin_cut          a smaller block: some segments, every so many-th point, in either byte order
+ *     tessarquin_combined     the setup of the one cut that stands for two cuts, or for any number of them
+ *     tessarquin_setup_read   the setup in a line as the oscilloscope takes it, such as WFSU SP,4,NP,0,FP,10,SN,0
+ *     tessarquin_setup_write  the one normal line of a setup
+ *     tessarquin_join         one block of the segments that were fetched one by one, in whatever order they arrived
+ *     tessarquin_narrow       a block of half the size, less precise: each sample's high byte, and 256 times the gain
  *
  * What holds for all of them
  *
@@ -63,16 +65,17 @@ extern "C" {
 /* The version of these calls. Below 1.0 the second number moves where a call takes or answers something else, and where
    one is added. Since 0.2 tessarquin_point answers 24 bytes (16 before), and tessarquin_fill eight bytes behind its M
    values: whoever fills segments back to back leaves room for them. Since 0.3 there is tessarquin_join, with the refusal
-   16, since 0.4 tessarquin_combined, since 0.5 tessarquin_narrow, with the refusal 19, since 0.6 tessarquin_crossing, and
-   since 0.7 tessarquin_strip; what was there before is as it was. Header and archive have to be of one version. */
+   16, since 0.4 tessarquin_combined, since 0.5 tessarquin_narrow, with the refusal 19, since 0.6 tessarquin_crossing,
+   since 0.7 tessarquin_strip, and since 0.8 tessarquin_setup_read and tessarquin_setup_write, with the refusal 15; what
+   was there before is as it was. Header and archive have to be of one version. */
 #define TESSARQUIN_VERSION_MAJOR 0
-#define TESSARQUIN_VERSION_MINOR 7
-#define TESSARQUIN_VERSION "0.7"
+#define TESSARQUIN_VERSION_MINOR 8
+#define TESSARQUIN_VERSION "0.8"
 
 /*
  * Why a call is refused, in the order of the checks: the first that applies is the number returned. Each entry is the
  * name, the number, when it is given, and what the caller can do. A host makes tables of its own from the list, in its
- * own language for example. 14 was never given and is not used; no call here gives 15, 17 or 18.
+ * own language for example. 14 was never given and is not used; no call here gives 17 or 18.
  */
 #define TESSARQUIN_REFUSALS(X)                                                                                         \
     X(FRAME, 1, "it does not start with #, a digit d from 1 to 9, and d digits",                                       \
@@ -105,6 +108,8 @@ extern "C" {
       "join every segment of one acquisition once, each fetched alone by its SN and all in the same form")             \
     X(GAIN, 19, "256 times VERTICAL_GAIN is beyond the greatest float",                                                \
       "keep the samples as words, or fetch the block again where its gain is damaged")                                 \
+    X(TEXT, 15, "the line is not a setup as the oscilloscope takes it, or the slice lent for a line is too short",     \
+      "write WFSU SP,4,NP,0,FP,10,SN,0 with the numbers that are wanted, or lend 60 bytes for a line")                 \
     X(ROOM, 13, "a slice lent for the answer is too short",                                                            \
       "lend as many bytes as the call says that its answer takes")
 
@@ -436,6 +441,69 @@ enum tessarquin_combined_number {
 uint32_t tessarquin_combined(uint32_t spa, uint32_t npa, uint32_t fpa, uint32_t sna,
                              uint32_t spb, uint32_t npb, uint32_t fpb, uint32_t snb, uint32_t count,
                              uint8_t *answer, size_t answer_len);
+
+/* ---- setups as lines */
+
+/* The numbers that tessarquin_setup_read answers: those of the setup, a pair that is missing as 0. */
+enum tessarquin_setup_read_number {
+    TESSARQUIN_SETUP_READ_SP,
+    TESSARQUIN_SETUP_READ_NP,
+    TESSARQUIN_SETUP_READ_FP,
+    TESSARQUIN_SETUP_READ_SN
+};
+#define TESSARQUIN_SETUP_READ_BYTES 32u
+
+/*
+ * Reads a setup as the oscilloscope takes it: refusal 15 where the line is no setup, then 13 if answer_len is below
+ * TESSARQUIN_SETUP_READ_BYTES. A line is
+ *
+ *     WFSU or WAVEFORM_SETUP, in capitals, and one blank;
+ *     one to four pairs with a comma between each and the next, in any order and none twice;
+ *     and nothing more: no blank, no line end, no zero byte.
+ *
+ * A pair is SP, NP, FP or SN, a comma, and one to ten decimal digits. Leading zeros are taken, and the number is at most
+ * 4,294,967,295. So four numbers for tessarquin_cut come of each line that is taken; whether the cut by them is accepted
+ * is the block's matter.
+ *
+ *     uint8_t setup[TESSARQUIN_SETUP_READ_BYTES];
+ *     const char *typed = "WFSU FP,10,SP,4";
+ *     if (tessarquin_setup_read((const uint8_t *)typed, strlen(typed), setup, sizeof setup) == TESSARQUIN_OK) {
+ *         printf("every %uth point", (unsigned)tessarquin_number(setup, TESSARQUIN_SETUP_READ_SP));
+ *         printf(" from point %u\n", (unsigned)tessarquin_number(setup, TESSARQUIN_SETUP_READ_FP));
+ *     }
+ *
+ * prints "every 4th point from point 10". Where a line goes wrong no number says: host/setup.c finds that.
+ */
+uint32_t tessarquin_setup_read(const uint8_t *line, size_t line_len,
+                               uint8_t *answer, size_t answer_len);
+
+/* The number that tessarquin_setup_write answers. */
+enum tessarquin_setup_write_number {
+    TESSARQUIN_SETUP_WRITE_LENGTH /* the bytes written to out, from 24 to TESSARQUIN_SETUP_LINE_MOST */
+};
+#define TESSARQUIN_SETUP_WRITE_BYTES 8u
+
+/* The longest line that tessarquin_setup_write writes. */
+#define TESSARQUIN_SETUP_LINE_MOST 60u
+
+/*
+ * Writes the one normal line of a setup: refusal 15 if out is shorter than the line, then 13 if answer_len is below
+ * TESSARQUIN_SETUP_WRITE_BYTES. It is WFSU, a blank, and all four pairs in the order SP, NP, FP, SN, without leading
+ * zeros; there is no line end and no zero byte behind it.
+ *
+ * tessarquin_setup_read reads the same four numbers from it. So two lines say the same setup exactly where, read and
+ * written again, they are the same bytes.
+ *
+ *     uint8_t line[TESSARQUIN_SETUP_LINE_MOST], write[TESSARQUIN_SETUP_WRITE_BYTES];
+ *     if (tessarquin_setup_write(4, 0, 10, 0, line, sizeof line, write, sizeof write) == TESSARQUIN_OK) {
+ *         printf("%.*s\n", (int)tessarquin_number(write, TESSARQUIN_SETUP_WRITE_LENGTH), (const char *)line);
+ *     }
+ *
+ * prints "WFSU SP,4,NP,0,FP,10,SN,0".
+ */
+uint32_t tessarquin_setup_write(uint32_t sp, uint32_t np, uint32_t fp, uint32_t sn,
+                                uint8_t *out, size_t out_len,
+                                uint8_t *answer, size_t answer_len);
 
 /* ---- joins */
 

@@ -4,11 +4,9 @@
 -- what was narrowed writes the same (`narrow-again`).
 use mathlib.Core.Path.{_≡_, refl, sym, ap, _∙_, subst}
 use mathlib.Core.Logic.{_↔_, inl}
-use mathlib.Core.Bool.{cond}
 use mathlib.Core.List.{List, [], _∷_, _++_, flatten, append-assoc}
 use Prim.Native.Nat.{ℕ, _+_, _≤_}
 use native.Mathlib.Omega.{arith}
-use lib.Dec.{leb}
 use lib.Ieee.{Float, binary64, toBits}
 use lib.ListN.{length, take, drop}
 use lib.Seq.{take-at}
@@ -16,7 +14,6 @@ use Rattle.rules.specs.Numbers.{Bytes, number, bytes, allBytes, splice}
 use Rattle.rules.specs.Rules.{opened}
 use Rattle.rules.specs.Points.{value, time, mark, markNumber, pointRefusal}
 use Rattle.rules.specs.Cut.{Setup, cutBytes, cutRefusal}
-use Rattle.rules.proofs.Tests.{orElse-none}
 use Rattle.rules.proofs.Headers.{SameAnswers}
 use Rattle.rules.proofs.Numbers.{length-bytes}
 use Rattle.rules.proofs.Demands.{cut-says, cut-bytes}
@@ -26,15 +23,12 @@ use Rattle.narrowing.proofs.Falls.{Fallen, point-same, time-same, byte-same, po
 use Rattle.narrowing.proofs.Exchange.{NarrowThenCut, CutThenNarrow, exchange, exchange-accepted, narrow-twice}
 use Rattle.tessarquin.specs.Calls.{orRoom, leftBy, pointBytes, pointNumber, pointLeft, narrowAnswer, narrowNumber, narrowLeft, narrowAnswerLeft}
 use Rattle.tessarquin.proofs.Slices.{point-length, number-enough, own-answered}
-use Rattle.tessarquin.proofs.Writing.{front, last-read, numbers-behind}
+use Rattle.tessarquin.proofs.Writing.{front, numbers-behind}
 use Rattle.tessarquin.proofs.Narrowing.{answer-length}
 use Rattle.tessarquin.proofs.Learnt.{PointCall, CutCall, NarrowCall}
 use Rattle.tessarquin.proofs.Demands.{lengthIn}
 use Rattle.tessarquin.proofs.Demands as host
-
--- the block's length, as it stands in an answer
-abbrev pub longIn : List ℕ → ℕ
-longIn answer = number 0 (take 8 answer)
+use Rattle.demands.proofs.Lengths.{longIn, Wrote, own-none, wrote-by}
 
 -- ---- what a call returned and left
 
@@ -48,32 +42,13 @@ module _ (s out answer : List ℕ) (m : ℕ) (left second : List ℕ) (call : Na
   pub never-13 : Bytes s → length s + 6 ≤ length out → 8 ≤ length answer → (m ≡ beforeRoom s) × (m ≡ 13 → ⊥)
   never-13 b h k = let r = room-enough s b (length out) h in (own k ∙ r .0, λ z. r .1 (sym (own k) ∙ z))
 
--- a call, lent out and answer, wrote the block t, and left its length in the answer
-pub record Wrote (t out answer left second : List ℕ) : Type 0 where
-  pub filled : left ≡ splice out 0 t
-  pub told : second ≡ splice answer 0 (allBytes 0 8 (length t ∷ []))
-  pub long : longIn second ≡ length t
-  pub block : take (longIn second) left ≡ t
-
 -- a call that returned 0: 1 to 8, 20, 19 and 13 are kept, and it wrote the block that the definition of a narrowing gives
 pub narrow-done : (s : List ℕ) → Bytes s → (out answer : List ℕ) (m : ℕ) (left second : List ℕ) → NarrowCall s out answer m left second → m ≡ 0
     → (narrowRefusal s (length out) ≡ 0) × Wrote (narrowBytes s) out answer left second
 unfolding narrowNumber narrowLeft narrowAnswerLeft
 narrow-done s b out answer m left second call z =
-    let e : narrowNumber s (length out) (length answer) ≡ 0 = sym (call .4 .0) ∙ z in
-    let taken : narrowRefusal s (length out) ≡ 0 = orElse-none (narrowRefusal s (length out)) (cond (leb (length (narrowAnswer s)) (length answer)) 0 13) e .0 in
-    let filled : left ≡ splice out 0 (narrowBytes s) = call .4 .1 .0 ∙ ap (λ (n : ℕ). leftBy n (narrowBytes s) out) e in
-    let told : second ≡ splice answer 0 (narrowAnswer s) = call .4 .1 .1 ∙ ap (λ (n : ℕ). leftBy n (narrowAnswer s) answer) e in
-    let fit = length-fits s b (narrow-says s (length out) taken .block) in
-    let long : longIn second ≡ length (narrowBytes s) = ap longIn told ∙ last-read [] (length (narrowBytes s)) 0 answer refl (omega arith) in (
-      taken,
-      record {
-        filled = filled;
-        told = told;
-        long = long;
-        block = (λ i. take (long i) (filled i)) ∙ front (narrowBytes s) out (length (narrowBytes s)) refl;
-      },
-    )
+    let e = own-none (narrowRefusal s (length out)) (narrowAnswer s) answer m (call .4 .0) z in
+    (e, wrote-by (narrowRefusal s (length out)) (narrowBytes s) out answer m left second (call .4 .0) (call .4 .1 .0) (call .4 .1 .1) z (omega (arith, length-fits s b (narrow-says s (length out) e .block))))
 
 -- the same payload under two accepted headers: the same number, and the same bytes left in both slices
 pub narrow-same : (s t : List ℕ) → SameAnswers s t → (out answer : List ℕ) (m n : ℕ) (x y u v : List ℕ) → NarrowCall s out answer m x u → NarrowCall t out answer n y v → (n ≡ m) × (y ≡ x) × (v ≡ u)

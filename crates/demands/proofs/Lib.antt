@@ -5,9 +5,11 @@ pub mod Back
 pub mod Circle
 pub mod Chains
 pub mod HostChains
+pub mod Lengths
 pub mod Narrowings
 pub mod HostNarrowings
 pub mod Crossings
 pub mod HostCrossings
 pub mod Strips
 pub mod HostStrips
+pub mod HostSetups

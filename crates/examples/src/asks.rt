@@ -248,13 +248,13 @@ fn first<'a>(block: &'a [u8; 512], n: usize) -> &'a [u8] {
 }
 
 // The same of a slice.
-fn part<'a>(block: &'a [u8], n: usize) -> &'a [u8] {
+pub fn part<'a>(block: &'a [u8], n: usize) -> &'a [u8] {
     let end = within(n, block.len());
     &block[..end]
 }
 
 // n, and at most `most`.
-fn within(n: usize, most: usize) -> usize
+pub fn within(n: usize, most: usize) -> usize
     ensures { λ r. ⌜ r ≤ most ⌝ }
 {
     if n < most { n } else { most }
@@ -270,7 +270,7 @@ fn print_in(order: u16, number: u32, name: &[u8]) {
 }
 
 // The number in two digits, and the case.
-fn print(number: u32, name: &[u8]) {
+pub fn print(number: u32, name: &[u8]) {
     print_to(b"\n", number, name);
 }
 

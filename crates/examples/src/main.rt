@@ -1,5 +1,6 @@
 // Runs the lines of "Checked examples" that have no star and the boundaries of each refusal, opens what cuts write, combines cuts, asks for the marks of
-// samples at the rail and beside it, looks for levels, draws strips, and narrows words to bytes: prints the number of each case and the case in words.
+// samples at the rail and beside it, looks for levels, draws strips, narrows words to bytes, and reads and
+// writes setup lines: prints the number of each case and the case in words.
 mod asks;
 mod blocks;
 mod choices;
@@ -8,6 +9,7 @@ mod judged;
 mod marks;
 mod narrowings;
 mod reached;
+mod typed;
 
 fn main() {
     judged::all();
@@ -16,4 +18,5 @@ fn main() {
     reached::all();
     drawings::all();
     narrowings::all();
+    typed::all();
 }

@@ -14,7 +14,8 @@ use Rattle.rules.specs.Wave.{orderOf, lengthsOf, startsOf}
 use Rattle.rules.specs.Rules.{payloadStart, stated, opened}
 use Rattle.rules.proofs.Opened.{good-opened}
 use Rattle.copies.specs.Copies.{gather}
-use Rattle.copies.proofs.Laws.{splice-none, splice-splice, gather-add, length-part}
+use Rattle.rules.proofs.Splices.{splice-none}
+use Rattle.copies.proofs.Laws.{splice-splice, gather-add, length-part}
 use Rattle.joining.specs.Join.{partEnd, partsIn, byIndex}
 use Rattle.joining.proofs.Lists.{Every, every-map, no-elements}
 use Rattle.joining.proofs.Parts.{parts-none, parts-next}

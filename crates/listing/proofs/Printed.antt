@@ -11,7 +11,8 @@ use Rattle.rules.specs.Rules.{opened}
 use Rattle.listing.specs.declared.pages.Spot.{Spot}
 use Rattle.listing.specs.declared.pages.Page.{Page}
 use Rattle.listing.specs.Listing.{listing}
-use Rattle.listing.specs.Pages.{Wrote, lineRoom, front, Stands, linesFrom, restBy, rest, Paged}
+use Rattle.copies.specs.Copies.{Wrote}
+use Rattle.listing.specs.Pages.{lineRoom, front, Stands, linesFrom, restBy, rest, Paged}
 use Rattle.listing.specs.Outputs.{Next, Printed}
 use Rattle.listing.proofs.Texts.{taken}
 use Rattle.listing.proofs.Rests.{rest-most}

@@ -27,11 +27,13 @@ use Rattle.points.specs.declared.walk.Step.the-variants.{Point, Done}
 use Rattle.points.specs.Walks.{acceptedPlace, placeOf, movedTo, afterOf, stepAt}
 use Rattle.points.proofs.Refusals.{walk-points, walk-none, walk-accepts}
 use Rattle.points.proofs.Walking.{step-point, place-number, begins}
-use Rattle.listing.specs.Listing.{decimal, hex, line, firstLine, refusedLine, tooLong, pointLine, segmentLines, listingBy, listing}
+use Rattle.digits.specs.Digits.{decimal, hex}
+use Rattle.listing.specs.Listing.{line, firstLine, refusedLine, tooLong, pointLine, segmentLines, listingBy, listing}
 use Rattle.listing.specs.Pages.{lineRoom, frontBy, front, spotAt, Stands, linesFrom, restBy, rest, Paged}
 use Rattle.listing.specs.declared.pages.Spot.{Spot}
 use Rattle.listing.specs.declared.pages.Page.{Page}
-use Rattle.listing.proofs.Texts.{length-spelled, places-few, places-mark}
+use Rattle.digits.proofs.Spelled.{length-spelled, places-few}
+use Rattle.listing.proofs.Texts.{places-mark}
 
 -- ---- the first line
 

@@ -1,40 +1,16 @@
 -- The listing of a block as text: the first line, a line for each point of array 1, and what is printed of other input. Definitions only.
-use Prim.Native.Nat.{ℕ, zero, suc, _+_, _-_, _/_}
+use Prim.Native.Nat.{ℕ, zero, suc, _-_}
 use mathlib.Core.Bool.{cond}
-use mathlib.Core.List.{List, [], _∷_, _++_, map, reverse, flatten}
+use mathlib.Core.List.{List, [], _∷_, _++_, map, flatten}
 use lib.ListN.{length}
 use lib.Dec.{ltb}
 use lib.Ieee.{binary64, toBits}
-use Rattle.rules.specs.Numbers.{digits, upFrom}
+use Rattle.rules.specs.Numbers.{upFrom}
 use Rattle.rules.specs.Wave.{Wave, orderOf, segments, points}
 use Rattle.rules.specs.Rules.{refusal, opened}
 use Rattle.rules.specs.Points.{value, time, mark, markNumber}
 use Rattle.block.specs.Opened.{arraysOf}
-
--- ---- numbers as text
-
--- the sign of a digit below 16: `0` to `9`, then `A` to `F`
-abbrev pub sign : ℕ → ℕ
-sign d = cond (ltb d 10) (48 + d) (55 + d)
-
--- the w lowest digits of n to the base b, the highest first
-unfoldable pub spelled : ℕ → ℕ → ℕ → List ℕ
-spelled b w n = map sign (reverse (digits b w n))
-
--- how many decimal digits n has: one below 10, and else one more than n / 10 has. The first number only bounds the steps
-unfoldable pub placesBy : ℕ → ℕ → ℕ
-placesBy zero n = 1
-placesBy (suc f) n = cond (ltb n 10) 1 (suc (placesBy f (n / 10)))
-
-unfoldable pub places : ℕ → ℕ
-places n = placesBy n n
-
--- n in decimal, and 64 bits as 16 hexadecimal digits
-abbrev pub decimal : ℕ → List ℕ
-decimal n = spelled 10 (places n) n
-
-abbrev pub hex : ℕ → List ℕ
-hex n = spelled 16 16 n
+use Rattle.digits.specs.Digits.{decimal, hex}
 
 -- ---- lines
 

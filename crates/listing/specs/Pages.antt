@@ -5,7 +5,7 @@ use mathlib.Core.List.{List, [], _++_, map, flatten}
 use Prim.Native.Nat.{ℕ, zero, suc, _+_, _-_, _≤_, _<_}
 use lib.ListN.{length, take}
 use lib.Dec.{ltb}
-use Rattle.rules.specs.Numbers.{upFrom, splice}
+use Rattle.rules.specs.Numbers.{upFrom}
 use Rattle.rules.specs.Wave.{Wave, segments}
 use Rattle.rules.specs.Rules.{refusal, opened}
 use Rattle.points.specs.Walks.{placeOf, movedTo}
@@ -16,11 +16,6 @@ use Rattle.listing.specs.declared.pages.Page.{Page}
 -- room for the longest line, a point's: segment and k of up to ten digits, value and time bits of 16, the mark, and a byte behind each
 abbrev pub lineRoom : ℕ
 lineRoom = 58
-
--- bs were written over l from `at` on, which left l', and they end at e
-pub record Wrote (l : List ℕ) (at : ℕ) (bs : List ℕ) (l' : List ℕ) (e : ℕ) : Type 0 where
-  pub leaves : l' ≡ splice l at bs
-  pub ends : e ≡ at + length bs
 
 -- the first line of what is printed of an input
 abbrev pub frontBy : ℕ → (ℕ → ℕ) → List ℕ

@@ -4,8 +4,10 @@ ghost use mathlib.Core.List.{[], _∷_};
 ghost use Prim.Native.Nat.{_+_, _≤_, _<_};
 ghost use lib.ListN.{length};
 ghost use Rattle.rules.specs.Points.{markNumber};
-ghost use Rattle.listing.specs.Listing.{line, decimal, hex, refusedLine, tooLong};
-ghost use Rattle.listing.specs.Pages.{Wrote, lineRoom};
+ghost use Rattle.digits.specs.Digits.{decimal, hex};
+ghost use Rattle.listing.specs.Listing.{line, refusedLine, tooLong};
+ghost use Rattle.copies.specs.Copies.{Wrote};
+ghost use Rattle.listing.specs.Pages.{lineRoom};
 
 // Segment, k, value bits, time bits and the mark, from `at`; and where the line ends.
 pub fn put_point(

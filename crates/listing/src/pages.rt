@@ -8,7 +8,8 @@ ghost use Prim.Native.Nat.{_+_, _≤_, _<_};
 ghost use lib.ListN.{length};
 ghost use Rattle.rules.specs.Rules.{opened};
 ghost use Rattle.listing.specs.Listing.{listing, pointLine};
-ghost use Rattle.listing.specs.Pages.{Wrote, lineRoom, Stands, Paged, front, rest, spotAt};
+ghost use Rattle.copies.specs.Copies.{Wrote};
+ghost use Rattle.listing.specs.Pages.{lineRoom, Stands, Paged, front, rest, spotAt};
 
 // The most bytes of input that are listed.
 const MOST: usize = 65536;

@@ -3,11 +3,9 @@ ghost use mathlib.Core.Path.{_≡_};
 ghost use mathlib.Core.List.{[], _∷_, _++_};
 ghost use Prim.Native.Nat.{_+_, _≤_, _<_};
 ghost use lib.ListN.{length};
-ghost use Rattle.rules.specs.Numbers.{splice};
 ghost use Rattle.rules.specs.Points.{markNumber};
-ghost use Rattle.listing.specs.Listing.{sign, spelled, decimal, hex};
-ghost use Rattle.listing.specs.Listing.{places as Listing·places};
-ghost use Rattle.listing.specs.Pages.{Wrote};
+ghost use Rattle.digits.specs.Digits.{spelled, decimal, hex};
+ghost use Rattle.copies.specs.Copies.{Wrote};
 
 // n in decimal and the byte `end`, from `at`; and where they end.
 pub fn put_decimal(n: u32, end: u8, out: &mut [u8], at: usize) -> usize
@@ -15,7 +13,7 @@ pub fn put_decimal(n: u32, end: u8, out: &mut [u8], at: usize) -> usize
     ensures { λ r. ⌜ Wrote (now (out .entry)) at (decimal n ++ (end ∷ [])) (now (out .exit)) r ⌝ }
     ensures { λ r. ⌜ (at < r) × (r ≤ at + 11) ⌝ }
 {
-    let width = places(n as u64);
+    let width = digits::places(n as u64);
     put_word(n as u64, 10, width, end, out, at)
 }
 
@@ -38,19 +36,6 @@ pub fn put_mark(mark: bool, end: u8, out: &mut [u8], at: usize) -> usize
     put_word(n, 10, 1, end, out, at)
 }
 
-// How many decimal digits n has.
-fn places(n: u64) -> usize
-    ensures { λ r. ⌜ r ≡ Listing·places n ⌝ }
-{
-    let mut count = 1;
-    let mut rest = n;
-    while rest >= 10 {
-        rest = rest / 10;
-        count += 1;
-    }
-    count
-}
-
 // The `width` lowest digits of n and the byte `end`, from `at`; and where they end.
 fn put_word(n: u64, base: u64, width: usize, end: u8, out: &mut [u8], at: usize) -> usize
     requires { ⌜ (0 < base) × (base ≤ 16) ⌝ }
@@ -58,30 +43,7 @@ fn put_word(n: u64, base: u64, width: usize, end: u8, out: &mut [u8], at: usize)
     ensures { λ r. ⌜ Wrote (now (out .entry)) at (spelled base width n ++ (end ∷ [])) (now (out .exit)) r ⌝ }
     ensures { λ r. ⌜ r ≡ at + width + 1 ⌝ }
 {
-    put_digits(n, base, width, out, at);
+    digits::put_digits(n, base, width, out, at);
     out[at + width] = end;
     at + width + 1
-}
-
-// The `width` lowest digits of n, the highest first, from `at`.
-fn put_digits(n: u64, base: u64, width: usize, out: &mut [u8], at: usize)
-    requires { ⌜ (0 < base) × (base ≤ 16) ⌝ }
-    requires { ⌜ at + width ≤ length (now out) ⌝ }
-    ensures { λ _. ⌜ now (out .exit) ≡ splice (now (out .entry)) at (spelled base width n) ⌝ }
-{
-    let mut left = width;
-    let mut rest = n;
-    while left > 0 {
-        left -= 1;
-        out[at + left] = sign_of(rest % base);
-        rest = rest / base;
-    }
-}
-
-// The sign of a digit: 0 to 9, then A to F.
-fn sign_of(d: u64) -> u8
-    requires { ⌜ d < 16 ⌝ }
-    ensures { λ r. ⌜ r ≡ sign d ⌝ }
-{
-    if d < 10 { 48 + d as u8 } else { 55 + d as u8 }
 }

@@ -1,11 +1,11 @@
 -- Two numbers that a call's contract allows for one input are equal, and so are the bytes left in the slices: `open-determined`, `point-determined`,
--- `fill-determined`, `crossing-determined`, `strip-determined`, `cut-determined`, `combined-determined`, `join-determined`, `narrow-determined`, `layout-determined`, `text-determined`, `label-determined`.
+-- `fill-determined`, `crossing-determined`, `strip-determined`, `cut-determined`, `combined-determined`, `setup-read-determined`, `setup-write-determined`, `join-determined`, `narrow-determined`, `layout-determined`, `text-determined`, `label-determined`.
 use mathlib.Core.Path.{_≡_, sym, _∙_}
 use mathlib.Core.List.{List}
 use Prim.Native.Nat.{ℕ}
 use lib.Ieee.{Float}
 use Rattle.rules.specs.Cut.{Setup}
-use Rattle.tessarquin.proofs.Learnt.{OpenCall, PointCall, FillCall, CrossingCall, StripCall, CutCall, CombinedCall, JoinCall, NarrowCall, LayoutCall, TextCall, LabelCall}
+use Rattle.tessarquin.proofs.Learnt.{OpenCall, PointCall, FillCall, CrossingCall, StripCall, CutCall, CombinedCall, SetupReadCall, SetupWriteCall, JoinCall, NarrowCall, LayoutCall, TextCall, LabelCall}
 
 pub open-determined : (s answer : List ℕ) (m n : ℕ) (x y : List ℕ) → OpenCall s answer m x → OpenCall s answer n y → (m ≡ n) × (x ≡ y)
 open-determined s answer m n x y p q = (p .3 .0 ∙ sym (q .3 .0), p .3 .1 ∙ sym (q .3 .1))
@@ -30,6 +30,12 @@ cut-determined s c order out answer m n x y u v p q = (p .4 .0 ∙ sym (q .4 .0)
 
 pub combined-determined : (a b : Setup) (c : ℕ) (answer : List ℕ) (m n : ℕ) (x y : List ℕ) → CombinedCall a b c answer m x → CombinedCall a b c answer n y → (m ≡ n) × (x ≡ y)
 combined-determined a b c answer m n x y p q = (p .2 .0 ∙ sym (q .2 .0), p .2 .1 ∙ sym (q .2 .1))
+
+pub setup-read-determined : (t answer : List ℕ) (m n : ℕ) (x y : List ℕ) → SetupReadCall t answer m x → SetupReadCall t answer n y → (m ≡ n) × (x ≡ y)
+setup-read-determined t answer m n x y p q = (p .3 .0 ∙ sym (q .3 .0), p .3 .1 ∙ sym (q .3 .1))
+
+pub setup-write-determined : (c : Setup) (out answer : List ℕ) (m n : ℕ) (x y u v : List ℕ) → SetupWriteCall c out answer m x u → SetupWriteCall c out answer n y v → (m ≡ n) × (x ≡ y) × (u ≡ v)
+setup-write-determined c out answer m n x y u v p q = (p .3 .0 ∙ sym (q .3 .0), p .3 .1 .0 ∙ sym (q .3 .1 .0), p .3 .1 .1 ∙ sym (q .3 .1 .1))
 
 pub join-determined : (s out answer : List ℕ) (m n : ℕ) (x y u v : List ℕ) → JoinCall s out answer m x u → JoinCall s out answer n y v → (m ≡ n) × (x ≡ y) × (u ≡ v)
 join-determined s out answer m n x y u v p q = (p .4 .0 ∙ sym (q .4 .0), p .4 .1 .0 ∙ sym (q .4 .1 .0), p .4 .1 .1 ∙ sym (q .4 .1 .1))

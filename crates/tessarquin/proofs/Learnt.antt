@@ -1,5 +1,5 @@
 -- What a caller learns of a call for C, as the checker has it from the `ensures` of the call: `OpenCall`, `PointCall`, `FillCall`, `CrossingCall`,
--- `StripCall`, `CutCall`, `CombinedCall`, `JoinCall`, `NarrowCall`, `LayoutCall`, `TextCall`, `LabelCall`. A theorem over these speaks of the contract itself. `holding b s` is the slice b with the bytes s in it.
+-- `StripCall`, `CutCall`, `CombinedCall`, `SetupReadCall`, `SetupWriteCall`, `JoinCall`, `NarrowCall`, `LayoutCall`, `TextCall`, `LabelCall`. A theorem over these speaks of the contract itself. `holding b s` is the slice b with the bytes s in it.
 use mathlib.Core.List.{List}
 use Prim.Native.Nat.{ℕ}
 use lib.Ieee.{Float}
@@ -13,6 +13,8 @@ use Rattle.tessarquin.proofs.crossed.tessarquin_crossing.Reads as cross
 use Rattle.tessarquin.proofs.drawn.tessarquin_strip.Reads as strip-reads
 use Rattle.tessarquin.proofs.tessarquin_cut.Reads as cut-reads
 use Rattle.tessarquin.proofs.combining.tessarquin_combined.Reads as combined-reads
+use Rattle.tessarquin.proofs.typed.tessarquin_setup_read.Reads as setup-read-reads
+use Rattle.tessarquin.proofs.typed.tessarquin_setup_write.Reads as setup-write-reads
 use Rattle.tessarquin.proofs.joined.tessarquin_join.Reads as join-reads
 use Rattle.tessarquin.proofs.narrowed.tessarquin_narrow.Reads as narrow-reads
 use Rattle.tessarquin.proofs.parts.tessarquin_layout.Reads as layout-reads
@@ -59,6 +61,18 @@ CombinedCall a b c answer m left =
     (κs : Lfts 1) × (r : RefT (List ℕ))
     × combined-reads.Learnt κs (a .sp, (a .np, (a .fp, (a .sn, (b .sp, (b .np, (b .fp, (b .sn, (c, (holding r answer, tt)))))))))) m
     (a .sp, (a .np, (a .fp, (a .sn, (b .sp, (b .np, (b .fp, (b .sn, (c, (holding r left, tt))))))))))
+
+-- lent a line of the bytes t and a slice for the answer, `tessarquin_setup_read` returned m and left these bytes in the slice
+abbrev pub SetupReadCall : List ℕ → List ℕ → ℕ → List ℕ → Type 0
+SetupReadCall t answer m left =
+    (κs : Lfts 2) × (b : RefT (List ℕ)) × (a : RefT (List ℕ)) × setup-read-reads.Learnt κs (holding b t, (holding a answer, tt)) m (holding b t, (holding a left, tt))
+
+-- for the setup c, and lent a slice for its line and one for the line's length, `tessarquin_setup_write` returned m and left these bytes in the two
+abbrev pub SetupWriteCall : Setup → List ℕ → List ℕ → ℕ → List ℕ → List ℕ → Type 0
+SetupWriteCall c out answer m left second =
+    (κs : Lfts 2) × (o : RefT (List ℕ)) × (a : RefT (List ℕ))
+    × setup-write-reads.Learnt κs (c .sp, (c .np, (c .fp, (c .sn, (holding o out, (holding a answer, tt)))))) m
+    (c .sp, (c .np, (c .fp, (c .sn, (holding o left, (holding a second, tt))))))
 
 -- lent parts of the bytes s, a slice for the block that is joined and one for n and its length, `tessarquin_join` returned m and left these bytes in the two
 abbrev pub JoinCall : List ℕ → List ℕ → List ℕ → ℕ → List ℕ → List ℕ → Type 0

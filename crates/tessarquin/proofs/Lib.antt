@@ -7,6 +7,7 @@ pub mod Stripping
 pub mod Cutting
 pub mod Joining
 pub mod Narrowing
+pub mod Typing
 pub mod Learnt
 pub mod Determined
 pub mod Headers

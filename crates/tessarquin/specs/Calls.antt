@@ -14,6 +14,8 @@ use Rattle.rules.specs.Cut.{Setup, orElse, count, cutBytes, cutRefusal, combine
 use Rattle.crossings.specs.Crossings.{crossing, crossingRefusal}
 use Rattle.strips.specs.Strips.{stripOf, stripRefusal}
 use Rattle.strips.specs.Answers.{unsigned, signedBytes}
+use Rattle.lines.specs.Reader.{readSetup, readRefusal, orZeros}
+use Rattle.lines.specs.Writer.{setupLine, writeRefusal}
 use Rattle.joining.specs.Join.{partsIn, joinedBytes, joinRefusal}
 use Rattle.narrowing.specs.Narrow.{narrowBytes, narrowRefusal}
 use Rattle.block.specs.Opened.{arraysOf}
@@ -134,6 +136,32 @@ combinedNumber a b c room = orRoom (combinedRefusal a b) (combinedBytes a b c) r
 
 unfoldable pub combinedLeft : Setup → Setup → ℕ → List ℕ → List ℕ
 combinedLeft a b c answer = leftBy (combinedNumber a b c (length answer)) (combinedBytes a b c) answer
+
+-- ---- a setup read from the line t: SP, NP, FP and SN
+
+abbrev pub setupReadBytes : List ℕ → List ℕ
+setupReadBytes t = allBytes 0 8 (setupNumbers (orZeros (readSetup t)))
+
+unfoldable pub setupReadNumber : List ℕ → ℕ → ℕ
+setupReadNumber t room = orRoom (readRefusal t) (setupReadBytes t) room
+
+unfoldable pub setupReadLeft : List ℕ → List ℕ → List ℕ
+setupReadLeft t answer = leftBy (setupReadNumber t (length answer)) (setupReadBytes t) answer
+
+-- ---- the normal line of the setup c: the line to one slice, its length to the other
+
+abbrev pub setupWriteAnswer : Setup → List ℕ
+setupWriteAnswer c = allBytes 0 8 (length (setupLine c) ∷ [])
+
+-- of the one slice 15 takes the place of 13
+unfoldable pub setupWriteNumber : Setup → ℕ → ℕ → ℕ
+setupWriteNumber c room second = orRoom (writeRefusal c room) (setupWriteAnswer c) second
+
+unfoldable pub setupWriteLeft : Setup → List ℕ → ℕ → List ℕ
+setupWriteLeft c out second = leftBy (setupWriteNumber c (length out) second) (setupLine c) out
+
+unfoldable pub setupWriteAnswerLeft : Setup → ℕ → List ℕ → List ℕ
+setupWriteAnswerLeft c room answer = leftBy (setupWriteNumber c room (length answer)) (setupWriteAnswer c) answer
 
 -- ---- a join of the parts s: the block to one slice, n and the block's length to the other
 

@@ -50,7 +50,7 @@ pub extern "C" fn tessarquin_combined(
 }
 
 // The four numbers of a setup, at the start of out.
-fn put_setup(c: Setup, out: &mut [u8])
+pub(crate) fn put_setup(c: Setup, out: &mut [u8])
     requires { ⌜ 32 ≤ length (now out) ⌝ }
     ensures { λ _. ⌜ now (out .exit) ≡ splice (now (out .entry)) 0 (allBytes 0 8 (setupNumbers (setupAs c))) ⌝ }
 {

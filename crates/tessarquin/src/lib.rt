@@ -6,6 +6,7 @@ mod drawn;
 mod joined;
 mod narrowed;
 mod parts;
+mod typed;
 
 use block::Opened;
 use cuts::Setup;

@@ -6,7 +6,7 @@ use native.Mathlib.Omega.{arith}
 use lib.ListN.{length}
 use Rattle.rules.specs.Numbers.{splice}
 use Rattle.copies.specs.Copies.{items}
-use Rattle.copies.proofs.Laws.{splice-none}
+use Rattle.rules.proofs.Splices.{splice-none}
 use Rattle.copies.proofs.Items.{seconds-more}
 use borrow.Author.Needs.{needs}
 use Rattle.copies.proofs.seconds.pick_blocks.Statement.{statement}

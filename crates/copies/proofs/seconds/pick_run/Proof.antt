@@ -8,7 +8,8 @@ use lib.ListN.{length, getD, length-set}
 use lib.Seq.{sets-eq}
 use Rattle.rules.specs.Numbers.{splice}
 use Rattle.copies.specs.Copies.{gather}
-use Rattle.copies.proofs.Laws.{splice-none, gather-step}
+use Rattle.rules.proofs.Splices.{splice-none}
+use Rattle.copies.proofs.Laws.{gather-step}
 use Rattle.copies.proofs.Items.{items-bytes, second-of}
 use borrow.Author.Needs.{needs}
 use Rattle.copies.proofs.seconds.pick_run.Statement.{statement}

@@ -6,7 +6,7 @@ use mathlib.Core.List.{List}
 use lib.ListN.{length, getD}
 use Rattle.rules.specs.Numbers.{Bytes, splice, startsFrom}
 use Rattle.rules.proofs.Numbers.{below-index}
-use Rattle.copies.proofs.Laws.{splice-none}
+use Rattle.rules.proofs.Splices.{splice-none}
 use borrow.Author.Needs.{needs}
 use Rattle.parts.specs.Parts.{rowsOf}
 use Rattle.joins.specs.Steps.{tableOf, tablesTo}

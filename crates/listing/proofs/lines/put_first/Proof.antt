@@ -2,7 +2,7 @@
 use mathlib.Core.List.{List, [], _∷_}
 use Prim.Native.Nat.{ℕ}
 use native.Mathlib.Omega.{arith}
-use Rattle.listing.specs.Listing.{decimal}
+use Rattle.digits.specs.Digits.{decimal}
 use Rattle.listing.proofs.Texts.{word-line}
 use borrow.Author.Needs.{needs}
 use Rattle.listing.proofs.lines.put_first.Statement.{statement}

@@ -3,7 +3,7 @@ use mathlib.Core.List.{List, [], _∷_}
 use Prim.Native.Nat.{ℕ}
 use native.Mathlib.Omega.{arith}
 use Rattle.rules.specs.Points.{markNumber}
-use Rattle.listing.specs.Listing.{decimal, hex}
+use Rattle.digits.specs.Digits.{decimal, hex}
 use Rattle.listing.proofs.Texts.{word-line}
 use borrow.Author.Needs.{needs}
 use Rattle.listing.proofs.lines.put_point.Statement.{statement}

@@ -4,8 +4,8 @@ use mathlib.Core.List.{List, [], _∷_}
 use Prim.Native.Nat.{ℕ}
 use native.Mathlib.Omega.{arith}
 use Rattle.listing.specs.Listing.{refusedLine}
-use Rattle.listing.specs.Pages.{Wrote}
-use Rattle.listing.proofs.Texts.{behind}
+use Rattle.copies.specs.Copies.{Wrote}
+use Rattle.copies.proofs.Laws.{behind}
 use borrow.Author.Needs.{needs}
 use Rattle.listing.proofs.lines.put_refused.Statement.{statement}
 use Rattle.listing.proofs.lines.put_refused.Tie as tie

@@ -3,8 +3,9 @@ use mathlib.Core.Path.{ap}
 use mathlib.Core.List.{[], _∷_, _++_}
 use Prim.Native.Nat.{ℕ, _≤_}
 use native.Mathlib.Omega.{arith}
-use Rattle.listing.specs.Listing.{spelled, places}
-use Rattle.listing.proofs.Texts.{places-few, worded}
+use Rattle.digits.specs.Digits.{spelled, places}
+use Rattle.digits.proofs.Spelled.{places-few}
+use Rattle.listing.proofs.Texts.{worded}
 use borrow.Author.Needs.{needs}
 use Rattle.listing.proofs.text.put_decimal.Statement.{statement}
 use Rattle.listing.proofs.text.put_decimal.Tie as tie

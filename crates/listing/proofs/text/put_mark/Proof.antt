@@ -4,7 +4,7 @@ use mathlib.Core.List.{[], _∷_, _++_}
 use Prim.Native.Nat.{ℕ}
 use native.Mathlib.Omega.{arith}
 use Rattle.rules.specs.Points.{markNumber}
-use Rattle.listing.specs.Listing.{spelled}
+use Rattle.digits.specs.Digits.{spelled}
 use Rattle.listing.proofs.Texts.{places-mark, worded}
 use borrow.Author.Needs.{needs}
 use Rattle.listing.proofs.text.put_mark.Statement.{statement}

@@ -4,8 +4,9 @@ use mathlib.Core.List.{List, [], _∷_}
 use Prim.Native.Nat.{ℕ, _+_}
 use native.Mathlib.Omega.{arith}
 use lib.ListN.{length, set, length-append}
-use Rattle.listing.specs.Listing.{spelled}
-use Rattle.listing.proofs.Texts.{length-spelled, set-last}
+use Rattle.digits.specs.Digits.{spelled}
+use Rattle.digits.proofs.Spelled.{length-spelled}
+use Rattle.listing.proofs.Texts.{set-last}
 use borrow.Author.Needs.{needs}
 use Rattle.listing.proofs.text.put_word.Statement.{statement}
 use Rattle.listing.proofs.text.put_word.Tie as tie

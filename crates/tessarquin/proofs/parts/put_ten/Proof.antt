@@ -6,7 +6,7 @@ use native.Mathlib.Omega.{arith}
 use lib.ListN.{length, take, getD}
 use lib.Seq.{take-all}
 use Rattle.rules.specs.Numbers.{bytes, allBytes, splice}
-use Rattle.copies.proofs.Laws.{splice-none}
+use Rattle.rules.proofs.Splices.{splice-none}
 use Rattle.tessarquin.proofs.Writing.{number-next}
 use borrow.Author.Needs.{needs}
 use Rattle.tessarquin.proofs.parts.put_ten.Statement.{statement}
