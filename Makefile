@@ -67,7 +67,7 @@ target/host/%: host/tests/%.c host/tests/blocks.h include/tessarquin.h | need-c
 
 # The program that README prints, the lines that the header prints, the calls at the end of a page, the header's readers,
 # the host program (faults.c says which calls go wrong in a second copy of it), and the independent reader.
-checked: WRAPPED := open write fsync close rename renameat2 tessarquin_point tessarquin_fill tessarquin_crossing tessarquin_strip tessarquin_cut tessarquin_combined tessarquin_join tessarquin_narrow
+checked: WRAPPED := open write fsync close rename renameat2 tessarquin_point tessarquin_fill tessarquin_crossing tessarquin_strip tessarquin_cut tessarquin_combined tessarquin_setup_read tessarquin_setup_write tessarquin_join tessarquin_narrow
 checked: need-tests host target/host/made target/host/sample target/host/table target/host/fields target/host/formed
 	@awk '/^```c$$/ { on = 1; next } /^```$$/ { on = 0 } on' README.md >target/host/first.c
 	@$(CC) $(CFLAGS) target/host/first.c $(ARCHIVE) -o target/host/first
@@ -82,6 +82,8 @@ checked: need-tests host target/host/made target/host/sample target/host/table t
 	@$(RUN) target/host/strips
 	@$(CC) $(CFLAGS) host/tests/chains.c $(ARCHIVE) -o target/host/chains
 	@$(RUN) target/host/chains
+	@$(CC) $(CFLAGS) host/tests/setups.c $(ARCHIVE) -o target/host/setups
+	@$(RUN) target/host/setups
 	@$(CC) $(CFLAGS) host/tests/joins.c $(ARCHIVE) -o target/host/joins
 	@$(RUN) target/host/joins
 	@$(CC) $(CFLAGS) host/tests/narrows.c $(ARCHIVE) -o target/host/narrows
@@ -89,6 +91,8 @@ checked: need-tests host target/host/made target/host/sample target/host/table t
 	@$(RUN) target/host/fields
 	@$(CC) $(CFLAGS) -Ihost host/tests/decimals.c host/decimal.c -o target/host/decimals
 	@$(RUN) target/host/decimals
+	@$(CC) $(CFLAGS) -Ihost host/tests/typed.c $(filter-out host/trace.c,$(HOST)) $(ARCHIVE) -lm -o target/host/typed
+	@$(RUN) target/host/typed
 	@$(CC) $(CFLAGS) $(WRAPPED:%=-Wl,--wrap=%) $(HOST) host/tests/faults.c $(ARCHIVE) -lm -o target/host/faulty
 	@host/tests/run '$(RUN)' target/host crates/listing/stdin
 	@$(MAKE) listed

@@ -226,6 +226,22 @@ struct lines lines_of(const struct opened *o, uint32_t n, struct form form);
 void print_point(const struct lines *lines, uint32_t k, const uint8_t *answer);
 void print_none(const struct lines *lines);
 
+/* ---- setup.c: setups as lines */
+
+/* The numbers of WAVEFORM_SETUP. */
+struct setup {
+    uint32_t sp, np, fp, sn;
+};
+
+/* The setup in a line as the oscilloscope takes it, or the end with where the line goes wrong. */
+struct setup setup_in(const char *line);
+
+/* Where a line that is refused goes wrong, in words; nothing where nothing was found. */
+void found_in_line(FILE *to, const uint8_t *line, size_t length);
+
+/* The one line of a setup with all four pairs in their order. The last answer stays. */
+const char *normal_line(struct setup setup);
+
 /* ---- help.c: how the program is called, in words */
 extern const char help[];
 
@@ -249,11 +265,7 @@ void print_crossings(const char *name, double level, uint32_t array, const uint3
 /* The segments in these files, in whatever order, as one block to `to`. */
 void join(const char *to, int replace, const char *const *names, size_t count);
 
-/* The numbers of WAVEFORM_SETUP; and a cut that was made by them, with the c that it answered. */
-struct setup {
-    uint32_t sp, np, fp, sn;
-};
-
+/* A cut that was made, with the c that it answered. */
 struct made {
     struct setup by;
     uint32_t kept;

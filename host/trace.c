@@ -21,6 +21,7 @@ enum { CSV = 1, DIGITS = 2, FORCE = 4, VIEW = 8 };
 
 /* What stands behind the command's name. */
 struct line {
+    const struct command *command;
     int count, csv, digits, replace;
     struct view view;
     const char **words;
@@ -126,7 +127,7 @@ static int read_option(const struct command *c, struct line *line, const char *o
 
 static struct line read_line(const struct command *c, int count, char **words)
 {
-    struct line line = {.view = {.array = 1}, .words = memory((size_t)count * sizeof *line.words)};
+    struct line line = {.command = c, .view = {.array = 1}, .words = memory((size_t)count * sizeof *line.words)};
     int plain = 0, taken;
     for (int i = 0; i < count; i++) {
         if (plain || !is_option(words[i])) {
@@ -177,21 +178,36 @@ static uint32_t order(const char *word)
     return is(word, "lo") ? TESSARQUIN_LOFIRST : TESSARQUIN_HIFIRST;
 }
 
+/* By four numbers, or by a line in their place. */
+static struct setup setup_of(const struct line *line)
+{
+    const char *const *words = line->words + 2;
+    if (line->count == 4)
+        return setup_in(words[0]);
+    if (line->count != 7)
+        takes(line->command);
+    return (struct setup){number(words[0]), number(words[1]), number(words[2]), number(words[3])};
+}
+
+/* The normal line is made before OUT is written: where it fails, nothing is. */
 static void run_cut(const struct line *line)
 {
     const char *const *words = line->words, *to = words[1];
-    uint32_t sp = number(words[2]), np = number(words[3]), fp = number(words[4]), sn = number(words[5]), into = order(words[6]);
+    struct setup by = setup_of(line);
+    uint32_t into = order(words[line->count - 1]);
     struct opened o = open_block(read_block(words[0]));
     struct block b = o.block;
     size_t room = b.length + TESSARQUIN_CUT_MORE;
     uint8_t *out = memory(room), answer[TESSARQUIN_CUT_BYTES];
-    uint32_t refusal = tessarquin_cut(b.bytes, b.length, sp, np, fp, sn, into, out, room, answer, sizeof answer);
+    uint32_t refusal = tessarquin_cut(b.bytes, b.length, by.sp, by.np, by.fp, by.sn, into, out, room, answer, sizeof answer);
     if (refusal)
-        refuse_question("a cut of ", &o, (struct asked){.segment = sn, .point = fp, .sp = sp}, refusal);
+        refuse_question("a cut of ", &o, (struct asked){.segment = by.sn, .point = by.fp, .sp = by.sp}, refusal);
+    const char *normal = normal_line(by);
     size_t length = (size_t)tessarquin_number(answer, TESSARQUIN_CUT_LENGTH);
     write_file((struct files){&b.file, 1}, to, line->replace, out, length);
     say("%s of each segment kept, %s written to %s", counted((int64_t)tessarquin_number(answer, TESSARQUIN_CUT_COUNT), "point"),
         counted((int64_t)length, "byte"), is(to, "-") ? "standard output" : to);
+    say("%s", normal);
 }
 
 static void run_join(const struct line *line)
@@ -224,7 +240,7 @@ static const struct command commands[] = {
     {"points", "FILE [ARRAY [SEGMENT]]", 1, 3, CSV | DIGITS, run_points},
     {"cross", "FILE LEVEL [ARRAY [SEGMENT]]", 2, 4, CSV | DIGITS, run_cross},
     {"draw", "FILE [OUT]", 1, 2, FORCE | VIEW, run_draw},
-    {"cut", "FILE OUT SP NP FP SN hi|lo", 7, 7, FORCE, run_cut},
+    {"cut", "FILE OUT SP NP FP SN hi|lo, or FILE OUT LINE hi|lo with a line in quotes, such as \"WFSU SP,4,NP,0,FP,10,SN,0\"", 4, 7, FORCE, run_cut},
     {"join", "OUT FILE..", 2, ANY, FORCE, run_join},
     {"combined", "SP NP FP SN C for each cut", 1, ANY, 0, run_combined},
     {"narrow", "FILE OUT", 2, 2, FORCE, run_narrow},

@@ -17,9 +17,12 @@
  *     uncrossed  a crossing is refused by 9, whatever the array and the level are
  *     undrawn    a strip is refused by 11, whatever the columns are
  *     uncombined two cuts are refused by 12, whatever their numbers are
+ *     unread     a line is refused by 15, whatever it says
+ *     unwritten  the line of a setup is refused by 15, though there is room
  *     unjoined   a join is refused by 16, whatever the parts are
  *     unnarrowed a narrowing is refused by 19, whatever the gain is
- *     unasked    a crossing, a strip, a join, two cuts, and a narrowing are refused by 13, though there is room
+ *     unasked    a crossing, a strip, a join, two cuts, a narrowing, a line and the line of a setup are refused by 13, though
+ *                there is room
  */
 #define _GNU_SOURCE
 #include "tessarquin.h"
@@ -51,6 +54,9 @@ uint32_t __real_tessarquin_cut(const uint8_t *block, size_t block_len, uint32_t 
                                uint32_t order, uint8_t *out, size_t out_len, uint8_t *answer, size_t answer_len);
 uint32_t __real_tessarquin_combined(uint32_t spa, uint32_t npa, uint32_t fpa, uint32_t sna, uint32_t spb, uint32_t npb,
                                     uint32_t fpb, uint32_t snb, uint32_t count, uint8_t *answer, size_t answer_len);
+uint32_t __real_tessarquin_setup_read(const uint8_t *line, size_t line_len, uint8_t *answer, size_t answer_len);
+uint32_t __real_tessarquin_setup_write(uint32_t sp, uint32_t np, uint32_t fp, uint32_t sn, uint8_t *out, size_t out_len,
+                                       uint8_t *answer, size_t answer_len);
 uint32_t __real_tessarquin_join(const uint8_t *parts, size_t parts_len, uint8_t *out, size_t out_len, uint8_t *answer,
                                 size_t answer_len);
 uint32_t __real_tessarquin_narrow(const uint8_t *block, size_t block_len, uint8_t *out, size_t out_len, uint8_t *answer,
@@ -190,6 +196,25 @@ uint32_t __wrap_tessarquin_combined(uint32_t spa, uint32_t npa, uint32_t fpa, ui
     if (fault("unasked"))
         return TESSARQUIN_ROOM;
     return __real_tessarquin_combined(spa, npa, fpa, sna, spb, npb, fpb, snb, count, answer, answer_len);
+}
+
+uint32_t __wrap_tessarquin_setup_read(const uint8_t *line, size_t line_len, uint8_t *answer, size_t answer_len)
+{
+    if (fault("unread"))
+        return TESSARQUIN_TEXT;
+    if (fault("unasked"))
+        return TESSARQUIN_ROOM;
+    return __real_tessarquin_setup_read(line, line_len, answer, answer_len);
+}
+
+uint32_t __wrap_tessarquin_setup_write(uint32_t sp, uint32_t np, uint32_t fp, uint32_t sn, uint8_t *out, size_t out_len,
+                                       uint8_t *answer, size_t answer_len)
+{
+    if (fault("unwritten"))
+        return TESSARQUIN_TEXT;
+    if (fault("unasked"))
+        return TESSARQUIN_ROOM;
+    return __real_tessarquin_setup_write(sp, np, fp, sn, out, out_len, answer, answer_len);
 }
 
 uint32_t __wrap_tessarquin_join(const uint8_t *parts, size_t parts_len, uint8_t *out, size_t out_len, uint8_t *answer,

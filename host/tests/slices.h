@@ -175,6 +175,23 @@ static inline uint32_t combined(const uint32_t *a, const uint32_t *b, uint32_t c
     return refusal;
 }
 
+static inline uint32_t setup_read(struct slice line, size_t room)
+{
+    struct slice answer = lend(room);
+    uint32_t refusal = tessarquin_setup_read(line.bytes, line.length, answer.bytes, room);
+    take(answer, refusal, 4);
+    return refusal;
+}
+
+/* A line to a slice, which the caller gives back. */
+static inline uint32_t setup_write(const uint32_t *setup, struct slice out, size_t room)
+{
+    struct slice answer = lend(room);
+    uint32_t refusal = tessarquin_setup_write(setup[0], setup[1], setup[2], setup[3], out.bytes, out.length, answer.bytes, room);
+    take(answer, refusal, 1);
+    return refusal;
+}
+
 /* A join to a slice, which the caller gives back. */
 static inline uint32_t join(struct slice parts, struct slice out, size_t room)
 {

@@ -65,7 +65,7 @@ while IFS='|' read -r shape cuts; do
         asked cut "$folder/row" - "$sp" "$np" "$fp" "$sn" "$order"
         [ "$got" = 0 ] || wrong "a cut of the row $shape: $(cat "$folder/err")"
         cp "$folder/out" "$folder/row"
-        told+=("$sp" "$np" "$fp" "$sn" "$(cut -d ' ' -f 1 "$folder/err")")
+        told+=("$sp" "$np" "$fp" "$sn" "$(head -n 1 "$folder/err" | cut -d ' ' -f 1)")
         "$trace" cut "$folder/whole" - $("$trace" combined "${told[@]}" 2>/dev/null) "$order" 2>/dev/null | cmp -s - "$folder/row" || wrong "trace combined ${told[*]}: the one cut writes other bytes"
         rows=$((rows + 1))
     done < <(tr ';' '\n' <<<"$cuts")

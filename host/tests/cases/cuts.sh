@@ -13,8 +13,8 @@ left() {
     rm -rf "${cuts:?}"/*
 }
 
-# written OUT: what the program says of a good cut of the example
-written() { echo "1 point of each segment kept, 358 bytes written to $1"; }
+# written OUT: what the program says of a good cut of the example: the last line is the setup's
+written() { printf '%s\n' "1 point of each segment kept, 358 bytes written to $1" 'WFSU SP,2,NP,0,FP,1,SN,0'; }
 
 expect 0 "$(written "$cuts/new")" cut "$example" "$cuts/new" "${setup[@]}"
 [ "$(stat -c %a "$cuts/new")" = 640 ] || wrong 'a new file has another mode than the umask gives'
@@ -27,7 +27,7 @@ left here
 expect 0 "$(written "$cuts/new")" cut - "$cuts/new" "${setup[@]}" <"$example"
 same "$cuts/new" "$folder/good" 'a cut of standard input is another'
 left new
-expect 0 '4,000 points of each segment kept, 4,357 bytes written to all' cut - all 0 0 0 0 lo < <($run "$programs/made" 0 0 1 4000 0)
+expect 0 $'4,000 points of each segment kept, 4,357 bytes written to all\nWFSU SP,0,NP,0,FP,0,SN,0' cut - all 0 0 0 0 lo < <($run "$programs/made" 0 0 1 4000 0)
 left all
 
 # a file that is there already, and one that a link leads to
@@ -48,7 +48,7 @@ for name in old link; do
 done
 refused 11 'a segment has 2 points, from 0 on, and point 2 was asked for' "a cut of $example" cut -f "$example" "$cuts/old" 1 0 2 0 lo
 refused 1 'it is empty' /dev/null cut -f /dev/null "$cuts/old" "${setup[@]}"
-usage='trace: cut takes FILE OUT SP NP FP SN hi|lo; trace --help tells how it is called'
+usage='trace: cut takes FILE OUT SP NP FP SN hi|lo, or FILE OUT LINE hi|lo with a line in quotes, such as "WFSU SP,4,NP,0,FP,10,SN,0"; trace --help tells how it is called'
 expect 2 "$usage" cut -f "$example" "$cuts/old" 1 0 0 0
 expect 2 "$usage" cut -f "$example" "$cuts/old" 1 0 0 0 lo more
 expect 2 'trace: up is not hi or lo' cut -f "$example" "$cuts/old" 1 0 0 0 up
@@ -68,7 +68,7 @@ expect 0 "$(written -f)" cut -- "$example" -f "${setup[@]}"
 expect 2 'trace: --csv is not known to cut; trace --help tells how it is called' cut --csv "$example" "$cuts/new" "${setup[@]}"
 left -f old
 
-# the line that tells of a cut is no part of it
+# the lines that tell of a cut are no part of it
 got=0
 "$trace" cut "$example" "$cuts/new" "${setup[@]}" >/dev/full 2>/dev/null || got=$?
 [ "$got" = 0 ] || wrong "a cut while standard output is full: $got"

@@ -1,15 +1,15 @@
 # What the program says of itself, what README prints, the starter for other machines, and what the makefile says is
 # missing.
 
-expect 0 'trace 0.7: reads LECROY_2_3 waveform files' --help
+expect 0 'trace 0.8: reads LECROY_2_3 waveform files' --help
 cp "$folder/out" "$folder/help"
 for words in 'show --help' 'points --help' 'cross --help' 'draw --help' 'cut --help' 'join --help' 'combined --help' 'narrow --help' '--help show'; do
     asked $words
     [ "$got" = 0 ] || wrong "trace $words: status $got"
     same "$folder/out" "$folder/help" "trace $words says something else"
 done
-expect 0 'trace 0.7' --version
-expect 0 'trace 0.7' --version x
+expect 0 'trace 0.8' --version
+expect 0 'trace 0.8' --version x
 expect 2 'trace: nothing was asked; trace --help tells how it is called'
 expect 2 'trace: shw is not known; trace --help tells how it is called' shw "$sample"
 expect 2 'trace: an empty word is not known; trace --help tells how it is called' ''
@@ -19,7 +19,8 @@ expect 2 'trace: --csv is not known to show; trace --help tells how it is called
 expect 3 "trace: $folder/no\\x1B[31m\\x0Aname ä: No such file or directory" show "$folder"/no$'\e[31m\nname ä'
 expect 2 'trace: \x07 is not known; trace --help tells how it is called' $'\a'
 cp "$sample" "$folder"/$'a\rb'
-expect 0 "16 points of each segment kept, 525 bytes written to $folder/c\\x0Dd" cut "$folder"/$'a\rb' "$folder"/$'c\rd' 1 0 0 0 lo
+expect 0 "16 points of each segment kept, 525 bytes written to $folder/c\\x0Dd
+WFSU SP,1,NP,0,FP,0,SN,0" cut "$folder"/$'a\rb' "$folder"/$'c\rd' 1 0 0 0 lo
 printf x >"$folder"/$'a\rb'
 refused 1 'no # in its 1 byte' "$folder/a\\x0Db" show "$folder"/$'a\rb'
 expect 2 'trace: show takes one FILE; trace --help tells how it is called' show
@@ -62,9 +63,13 @@ from 23748 to 27348
 from 18800 to 22400
 greatest at point 4
 every 12th point from point 40, 5 points
+every 4th point from point 10
+WFSU SP,4,NP,0,FP,10,SN,0
 3 segments in 525 bytes
 477 bytes' ] || wrong "the lines of the header print $($run "$programs/printed" <"$sample")"
-grep -qF "prints \"$($run "$programs/printed" <"$sample" | grep '^every')\"" include/tessarquin.h || wrong 'the header says something else than its lines print'
+while IFS= read -r row; do
+    grep -qF "prints \"$row\"" include/tessarquin.h || wrong "the header does not say that its lines print $row"
+done < <($run "$programs/printed" <"$sample" | grep -E '^(every|WFSU)')
 
 # ---- where the machine is not x86-64, `trace` is a script; a link to it starts the same program
 
