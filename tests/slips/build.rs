@@ -9,7 +9,7 @@ use std::{env, fs};
 const LAW: &str = "../src/law";
 const LIST: &str = "wrong.txt";
 /// What a version may be caught by with nothing to compare with; src/main.rs has a way for each.
-const FLAWS: [&str; 20] = [
+const FLAWS: [&str; 25] = [
     "breaks demand 3",
     "breaks a chain",
     "breaks a rule",
@@ -30,6 +30,11 @@ const FLAWS: [&str; 20] = [
     "hangs on the columns",
     "pairs otherwise",
     "changes in a cut",
+    "misses a setup",
+    "reads back otherwise",
+    "has no normal line",
+    "hangs on the spelling",
+    "takes a byte more",
 ];
 
 /// One entry of the list; a line left out has no wrong one.
@@ -53,16 +58,26 @@ fn main() {
         write_copy(&folder, &files, entry);
         let module = folder.join("mod.rs");
         let Entry { title, flaws, .. } = entry;
-        let join_alone = files_behind(&entry.file, &files) == ["join.rs"];
+        let can_show = can_show(&files_behind(&entry.file, &files));
         writeln!(modules, "#[path = {module:?}]\nmod wrong_{number};").expect("a string grows");
         writeln!(
             names,
-            "Version {{ title: {title:?}, join_alone: {join_alone}, flaws: &{flaws:?}, calls: calls_of!(wrong_{number}) }},"
+            "Version {{ title: {title:?}, can_show: {can_show}, flaws: &{flaws:?}, calls: calls_of!(wrong_{number}) }},"
         )
         .expect("a string grows");
     }
     let text = format!("{modules}\npub const WRONG: &[Version] = &[\n{names}];\n");
     fs::write(out.join("wrong.rs"), text).expect("OUT_DIR takes files");
+}
+
+/// The cases that can show a version, by the files that change with it; some change the calls of one kind
+/// of case alone.
+fn can_show(copied: &[&str]) -> &'static str {
+    match copied {
+        ["join.rs"] => "cases::is_join",
+        ["setup.rs"] => "cases::is_setup",
+        _ => "|_| true",
+    }
 }
 
 /// The files of the implementation: name and text. mod.rs only names the others.

@@ -15,6 +15,8 @@ pub struct Calls {
     pub strip: fn(&[u8], u32, u32, u32, &mut [u8], &mut [u8], &mut [u8]) -> u32,
     pub cut: fn(&[u8], u32, u32, u32, u32, u32, &mut [u8], &mut [u8]) -> u32,
     pub combined: fn(u32, u32, u32, u32, u32, u32, u32, u32, u32, &mut [u8]) -> u32,
+    pub setup_read: fn(&[u8], &mut [u8]) -> u32,
+    pub setup_write: fn(u32, u32, u32, u32, &mut [u8], &mut [u8]) -> u32,
     pub join: fn(&[u8], &mut [u8], &mut [u8]) -> u32,
     pub narrow: fn(&[u8], &mut [u8], &mut [u8]) -> u32,
     pub layout: fn(&[u8], &mut [u8]) -> u32,
@@ -32,7 +34,7 @@ pub struct Calls {
 #[macro_export]
 macro_rules! calls_of {
     ($module:path) => {{
-        use $module::{calls, combined, crossing, join, narrow, places, strip, tested};
+        use $module::{calls, combined, crossing, join, narrow, places, setup, strip, tested};
         $crate::calls::Calls {
             open: calls::open,
             point: calls::point,
@@ -41,6 +43,8 @@ macro_rules! calls_of {
             strip: strip::strip,
             cut: calls::cut,
             combined: combined::combined,
+            setup_read: setup::read_line,
+            setup_write: setup::write_line,
             join: join::join,
             narrow: narrow::narrow,
             layout: places::layout,
@@ -90,6 +94,10 @@ impl Calls {
             }
             Call::Combined { a, b: Setup { sp, np, fp, sn }, count } => {
                 (self.combined)(a.sp, a.np, a.fp, a.sn, sp, np, fp, sn, count, answer)
+            }
+            Call::SetupRead => (self.setup_read)(block, answer),
+            Call::SetupWrite { setup: Setup { sp, np, fp, sn } } => {
+                (self.setup_write)(sp, np, fp, sn, out, answer)
             }
             Call::Join => (self.join)(block, out, answer),
             Call::Narrow => (self.narrow)(block, out, answer),

@@ -1,4 +1,4 @@
-//! A case: one block and what is asked of it, fixed by a seed and a case number.
+//! A case: one block and what is asked of it, or lines, fixed by a seed and a case number.
 
 use crate::chains;
 use crate::compare::{Checker, Difference};
@@ -19,6 +19,7 @@ use crate::random::Random;
 use crate::request::Call;
 use crate::results;
 use crate::rooms::request;
+use crate::setups;
 use crate::shape::{any_order, Shape};
 use crate::strips;
 
@@ -53,6 +54,7 @@ pub fn run(checker: &mut Checker, seed: u64, case: u64) -> (String, Result<(), D
             let block = edges::all(&[a, b], random).bytes();
             (format!("two faults: {}; {}", a.name, b.name), ask_any(checker, &block, random))
         }
+        6 if case % 64 == 22 => setups::run(checker, case / 64, random), // is_setup
         6 if case % 16 == 14 => {
             ("marks".into(), marks::check(checker, (case / 16) as usize, random))
         }
@@ -70,6 +72,11 @@ pub fn run(checker: &mut Checker, seed: u64, case: u64) -> (String, Result<(), D
 /// Whether a case asks for joins.
 pub fn is_join(case: u64) -> bool {
     case % 8 == 1
+}
+
+/// Whether a case asks for setups as lines.
+pub fn is_setup(case: u64) -> bool {
+    case % 64 == 22
 }
 
 /// Two cuts, one after the other, of a right block.
@@ -180,7 +187,7 @@ fn ask_any(checker: &mut Checker, block: &[u8], random: &mut Random) -> Result<(
     ask_little(checker, block, random)
 }
 
-/// Each C call once but a join, and two of the test calls.
+/// Each C call once but a join and those of lines, and two of the test calls.
 fn ask_little(checker: &mut Checker, block: &[u8], random: &mut Random) -> Result<(), Difference> {
     let extent = Extent::of(block);
     let mut calls = extent.c_calls(block, random);

@@ -7,7 +7,7 @@ use std::collections::BTreeMap;
 use std::fmt::Display;
 
 /// The refusals that a run must see: all that the calls give.
-const REFUSALS: [u64; 16] = [1, 2, 3, 4, 5, 6, 7, 8, 9, 10, 11, 12, 13, 16, 19, 20];
+const REFUSALS: [u64; 17] = [1, 2, 3, 4, 5, 6, 7, 8, 9, 10, 11, 12, 13, 15, 16, 19, 20];
 
 /// What has been compared so far.
 #[derive(Default)]
@@ -60,6 +60,20 @@ pub struct Tally {
     pub paired_strips: u64,
     /// Segments whose strips are those of what is cut of them.
     pub cut_strips: u64,
+    /// Lines with the numbers that they were made of, and those refused for the faults they were made
+    /// with.
+    pub known_lines: u64,
+    pub faulty_lines: u64,
+    /// Setups that were written, or refused, as their digits and the room have it.
+    pub known_setups: u64,
+    /// Setups that are read back from what was written.
+    pub read_back: u64,
+    /// Lines that have one normal line.
+    pub normal_lines: u64,
+    /// Setups that are read the same from several spellings.
+    pub respelled: u64,
+    /// Lines that are none with one byte more.
+    pub ended_lines: u64,
 }
 
 impl Tally {
@@ -78,7 +92,7 @@ impl Tally {
     }
 
     /// What was found on the core's own answers, and how often.
-    pub fn checked(&self) -> [(String, u64); 24] {
+    pub fn checked(&self) -> [(String, u64); 31] {
         [
             ("cut blocks that opened".into(), self.cut_blocks),
             ("narrowed blocks that opened".into(), self.narrowed_blocks),
@@ -104,6 +118,13 @@ impl Tally {
             ("segments that are the same in any columns".into(), self.parted_segments),
             ("strips of columns joined in pairs".into(), self.paired_strips),
             ("segments with the strips of their cuts".into(), self.cut_strips),
+            ("lines of known numbers".into(), self.known_lines),
+            ("lines of known faults".into(), self.faulty_lines),
+            ("setups with the line of their digits".into(), self.known_setups),
+            ("setups read back as they were written".into(), self.read_back),
+            ("lines with one normal line".into(), self.normal_lines),
+            ("setups that are the same in any spelling".into(), self.respelled),
+            ("lines that are none with one byte more".into(), self.ended_lines),
         ]
     }
 
@@ -177,11 +198,16 @@ impl<'a> Checker<'a> {
 
 fn describe(request: &Request) -> String {
     let Request { call, block, unread, out, answer, marks, least, greatest, .. } = request;
+    // A line shows by itself what is wrong.
+    let line = match call {
+        Call::SetupRead => format!(" of \"{}\"", block.escape_ascii()),
+        _ => String::new(),
+    };
     let (block, out, answer, marks) = (block.len(), out.len(), answer.len(), marks.len());
     let (least, greatest) = (least.len(), greatest.len());
     let unread = if *unread == 0 { String::new() } else { format!(" ({unread} of it unread)") };
     format!(
-        "{call}; block of {block}{unread}, out of {out}, answer of {answer}, marks of {marks}, least of {least}, greatest of {greatest}"
+        "{call}{line}; block of {block}{unread}, out of {out}, answer of {answer}, marks of {marks}, least of {least}, greatest of {greatest}"
     )
 }
 

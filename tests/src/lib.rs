@@ -24,6 +24,7 @@ pub mod results;
 pub mod rooms;
 pub mod runner;
 pub mod samples;
+pub mod setups;
 pub mod shape;
 pub mod strips;
 pub mod times;

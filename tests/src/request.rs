@@ -16,6 +16,10 @@ pub enum Call {
     Cut { setup: Setup, order: u32 },
     // The one cut for cut a, then cut b, which answered `count`; it takes no block.
     Combined { a: Setup, b: Setup, count: u32 },
+    // `block` holds the line.
+    SetupRead,
+    // The normal line goes to `out`; it takes no block.
+    SetupWrite { setup: Setup },
     // `block` holds the parts, back to back.
     Join,
     Narrow,
@@ -41,7 +45,7 @@ pub enum Call {
 
 impl Call {
     /// How many calls there are, by name.
-    pub const NAMES: usize = 18;
+    pub const NAMES: usize = 20;
 
     pub fn name(&self) -> &'static str {
         match self {
@@ -52,6 +56,8 @@ impl Call {
             Call::Strip { .. } => "strip",
             Call::Cut { .. } => "cut",
             Call::Combined { .. } => "combined setup",
+            Call::SetupRead => "setup read",
+            Call::SetupWrite { .. } => "setup write",
             Call::Join => "join",
             Call::Narrow => "narrow",
             Call::Layout => "layout",
@@ -99,7 +105,7 @@ impl fmt::Display for Call {
     fn fmt(&self, f: &mut fmt::Formatter) -> fmt::Result {
         write!(f, "{}", self.name())?;
         match self {
-            Call::Open | Call::Join | Call::Narrow => Ok(()),
+            Call::Open | Call::SetupRead | Call::Join | Call::Narrow => Ok(()),
             Call::Layout | Call::TextPlace | Call::UserText => Ok(()),
             Call::Point { array, segment, point } => {
                 write!(f, ": array {array}, segment {segment}, point {point}")
@@ -117,6 +123,7 @@ impl fmt::Display for Call {
             }
             Call::Cut { setup, order } => write!(f, ": {setup}, order {order}"),
             Call::Combined { a, b, count } => write!(f, ": {a}; then {b}, c {count}"),
+            Call::SetupWrite { setup } => write!(f, ": {setup}"),
             Call::Step { array, segment, k } => {
                 write!(f, ": array {array}, segment {segment}, after {k}")
             }
@@ -135,9 +142,9 @@ impl fmt::Display for Setup {
 }
 
 /// A call with the slices lent to it, and what they hold before it. `fallback` is empty but for a
-/// label and its place, `out` but for a cut, a join, a narrowing and a walk, `marks` but for a walk
-/// and a step, `least` and `greatest` but for a strip. A combined setup takes no block. Floats are
-/// lent as their bytes, the low byte first.
+/// label and its place, `out` but for a cut, a setup write, a join, a narrowing and a walk, `marks` but
+/// for a walk and a step, `least` and `greatest` but for a strip. A combined setup and a setup write
+/// take no block. Floats are lent as their bytes, the low byte first.
 #[derive(Clone)]
 pub struct Request<'a> {
     pub call: Call,
@@ -199,6 +206,11 @@ impl Reply {
 
     /// The block that an accepted narrowing wrote.
     pub fn narrowed(&self) -> &[u8] {
+        self.out_by(0)
+    }
+
+    /// The line that an accepted setup write wrote.
+    pub fn line(&self) -> &[u8] {
         self.out_by(0)
     }
 

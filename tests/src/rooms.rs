@@ -1,7 +1,8 @@
 //! The slices lent to a call: with just enough room, with one byte or one float less, or with more.
 
 use crate::calls::LAW;
-use crate::law::cut::CUT_MORE;
+use crate::law::cut::{Setup, CUT_MORE};
+use crate::law::setup::normal_line;
 use crate::law::texts;
 use crate::questions::Extent;
 use crate::random::Random;
@@ -22,7 +23,8 @@ pub struct Room {
 }
 
 impl Room {
-    /// For a cut, a join or a narrowing: its block, then the numbers of its answer.
+    /// For a cut, a join or a narrowing: its block, then the numbers of its answer. For a setup write:
+    /// its line.
     pub fn for_block(out: usize, answer: usize) -> Room {
         Room { out, answer, ..Room::default() }
     }
@@ -98,7 +100,10 @@ fn need(call: Call, block: &[u8]) -> Room {
         Call::Fill { .. } => Room::for_answer(8 * points() + 8),
         Call::Cut { .. } | Call::Join => need_of_block(call, block, 16, Reply::written),
         Call::Narrow => need_of_block(call, block, 8, Reply::narrowed),
-        Call::Combined { .. } => Room::for_answer(32),
+        Call::Combined { .. } | Call::SetupRead => Room::for_answer(32),
+        Call::SetupWrite { setup: Setup { sp, np, fp, sn } } => {
+            Room::for_block(normal_line([sp, np, fp, sn]).len(), 8)
+        }
         Call::Layout => Room::for_answer(200),
         Call::TextPlace | Call::Crossing { .. } => Room::for_answer(16),
         Call::LabelPlace { .. } => Room::for_answer(24),

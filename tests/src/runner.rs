@@ -187,6 +187,8 @@ impl Core for Runner {
                 (17, vec![array, segment, level as u32, (level >> 32) as u32])
             }
             Call::Strip { array, segment, columns } => (18, vec![array, segment, columns]),
+            Call::SetupRead => (19, vec![]),
+            Call::SetupWrite { setup: Setup { sp, np, fp, sn } } => (20, vec![sp, np, fp, sn]),
         };
         let Request { block, unread, fallback, out, answer, marks, least, greatest, .. } = request;
         let slices: Lent = [block, fallback, out, answer, marks, least, greatest];

@@ -12,13 +12,14 @@ use tessarquin_tests::crossings;
 use tessarquin_tests::joins;
 use tessarquin_tests::narrows;
 use tessarquin_tests::random::Random;
+use tessarquin_tests::setups;
 use tessarquin_tests::strips;
 
 /// A wrong version.
 struct Version {
     title: &'static str,
-    /// Whether it answers every other call as the right one does.
-    join_alone: bool,
+    /// Which cases ask for a call that it answers otherwise.
+    can_show: fn(u64) -> bool,
     /// What shows it with nothing to compare with.
     flaws: &'static [&'static str],
     calls: Calls,
@@ -28,7 +29,7 @@ mod wrong {
     #![allow(warnings)] // they are wrong on purpose
 
     use super::Version;
-    use tessarquin_tests::calls_of;
+    use tessarquin_tests::{calls_of, cases};
 
     include!(concat!(env!("OUT_DIR"), "/wrong.rs"));
 }
@@ -42,7 +43,7 @@ struct Way {
     run: fn(&mut Checker, &mut Random) -> Result<(), Difference>,
 }
 
-const WAYS: [Way; 20] = [
+const WAYS: [Way; 25] = [
     Way {
         flaw: "breaks demand 3",
         caught_how: "caught by demand 3 alone",
@@ -163,6 +164,36 @@ const WAYS: [Way; 20] = [
         kind: "strips and cuts",
         run: strips::by_cuts,
     },
+    Way {
+        flaw: "misses a setup",
+        caught_how: "caught by lines and setups of known answers alone",
+        kind: "known line and setup",
+        run: setups::by_making,
+    },
+    Way {
+        flaw: "reads back otherwise",
+        caught_how: "caught by reading what they write alone",
+        kind: "setup written and read",
+        run: setups::by_writing,
+    },
+    Way {
+        flaw: "has no normal line",
+        caught_how: "caught by writing what they read alone",
+        kind: "line read and written",
+        run: setups::by_reading,
+    },
+    Way {
+        flaw: "hangs on the spelling",
+        caught_how: "caught by other spellings alone",
+        kind: "setup in several spellings",
+        run: setups::by_spellings,
+    },
+    Way {
+        flaw: "takes a byte more",
+        caught_how: "caught by one byte more alone",
+        kind: "line and one byte more",
+        run: setups::by_more,
+    },
 ];
 
 /// Cases that a version is compared in: those of a common run.
@@ -179,7 +210,7 @@ fn main() -> ExitCode {
     panic::set_hook(Box::new(|_| ()));
     let list = std::env::args().any(|argument| argument == "--list");
     let mut all_caught = tell("caught", list, wrong::WRONG.iter(), |version| {
-        first_difference(version.calls, |case| !version.join_alone || cases::is_join(*case))
+        first_difference(version.calls, version.can_show)
     });
     for way in &WAYS {
         let flawed = wrong::WRONG.iter().filter(|version| version.flaws.contains(&way.flaw));
@@ -214,9 +245,9 @@ fn tell<'a>(
 
 /// The first difference between a version and the right one, in a line. Only cases that can show it
 /// are asked.
-fn first_difference(mut calls: Calls, can_show: impl Fn(&u64) -> bool) -> Option<String> {
+fn first_difference(mut calls: Calls, can_show: fn(u64) -> bool) -> Option<String> {
     let mut checker = Checker::new(&mut calls, LAW);
-    (0..CASES).filter(can_show).find_map(|case| {
+    (0..CASES).filter(|case| can_show(*case)).find_map(|case| {
         let (kind, result) = cases::run(&mut checker, SEED, case);
         result.err().map(|difference| line(case, &kind, difference))
     })

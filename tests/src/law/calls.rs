@@ -1,8 +1,8 @@
 //! The calls of the C host: numbers and byte slices only. Each returns 0 or the refusal's number; a
 //! refusal leaves every lent slice as it was. places.rs has those that answer where things stand,
 //! combined.rs the one that makes one cut of two, crossing.rs the one that looks for a level, join.rs
-//! the one that joins, narrow.rs the one that narrows, strip.rs the one that parts a segment into
-//! columns.
+//! the one that joins, narrow.rs the one that narrows, setup.rs the two that read and write setups as
+//! lines, strip.rs the one that parts a segment into columns.
 
 use super::cut::{cut as cut_block, Setup};
 use super::numbers::{store, Order};

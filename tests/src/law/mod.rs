@@ -16,6 +16,7 @@ pub mod numbers;
 pub mod places;
 pub mod points;
 pub mod rules;
+pub mod setup;
 pub mod strip;
 pub mod tested;
 pub mod texts;

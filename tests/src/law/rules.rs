@@ -4,8 +4,8 @@
 use super::descriptor::*;
 use super::numbers::{read_double, Order};
 
-/// The refusals, with the document's numbers. 14 was never given and is not used; no call gives 15,
-/// 17 or 18.
+/// The refusals, with the document's numbers. 14 was never given and is not used; no call gives 17 or
+/// 18.
 #[derive(Clone, Copy, Debug, PartialEq, Eq)]
 pub enum Refusal {
     Frame = 1,
@@ -21,7 +21,8 @@ pub enum Refusal {
     Point,
     Sparse,
     Room,
-    Join = 16,
+    Text = 15,
+    Join,
     Gain = 19,
     Time,
 }
