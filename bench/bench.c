@@ -156,6 +156,29 @@ static uint32_t of_cut(void)
 
 static uint32_t combined(void) { return tessarquin_combined(2, 0, 10, 0, 6, 0, 15, 0, 5, answer, sizeof answer); }
 
+/* A setup as a line: the usual one, or the longest that is written. In C the four numbers are left as they are read. */
+static const char *line;
+static uint32_t setup[4];
+
+static void make_line(int longest)
+{
+    static const uint32_t usual[4] = {4, 0, 10, 0};
+    line = longest ? "WFSU SP,4294967295,NP,4294967295,FP,4294967295,SN,4294967295" : "WFSU SP,4,NP,0,FP,10,SN,0";
+    for (size_t k = 0; k < 4; k++)
+        setup[k] = longest ? UINT32_MAX : usual[k];
+}
+
+static uint32_t line_read(void) { return tessarquin_setup_read((const uint8_t *)line, strlen(line), answer, sizeof answer); }
+static uint32_t line_written(void) { return tessarquin_setup_write(setup[0], setup[1], setup[2], setup[3], out, TESSARQUIN_SETUP_LINE_MOST, answer, sizeof answer); }
+
+static uint32_t c_line_read(void)
+{
+    uint32_t read[4];
+    return !same_setup_read((const uint8_t *)line, strlen(line), read) || memcmp(read, setup, sizeof read) != 0;
+}
+
+static uint32_t c_line_written(void) { return same_setup_write(setup, out) != strlen(line) || memcmp(out, line, strlen(line)) != 0; }
+
 /* A join, and one that is refused; in C every part is opened by the library, and copied where the join is made. */
 static uint32_t joined(void) { return tessarquin_join(block, length, out, length + TESSARQUIN_JOIN_MORE, answer, sizeof answer); }
 static uint32_t unjoined(void) { return joined() != TESSARQUIN_JOIN; }
@@ -252,6 +275,10 @@ static const struct work {
     {"label", 1, 2, 0, label_found, NULL},
     {"label-full", 1, 2, 0, label_found, NULL},
     {"combined", 1, 2, 0, combined, NULL},
+    {"setup-read", 1, 2, 0, line_read, c_line_read},
+    {"setup-read-longest", 1, 2, 0, line_read, c_line_read},
+    {"setup-write", 1, 2, 0, line_written, c_line_written},
+    {"setup-write-longest", 1, 2, 0, line_written, c_line_written},
     {"point", 1, 2, 0, one_point, NULL},
     {"point-trigger", 1, 2, 1, last_segment, NULL},
     {"sequence-whole", 1, 2, IN_SEQUENCE, of_whole, NULL},
@@ -310,6 +337,8 @@ static uint32_t (*prepare(const char *who, const char *name, size_t n))(void)
         make_parts(w->order, n, w->in_each);
     else
         make(w->order, w->width, w->in_each ? n : 1, w->in_each ? w->in_each : n, w->in_each != 0);
+    if (strncmp(name, "setup-", 6) == 0)
+        make_line(strstr(name, "longest") != NULL);
     if (strncmp(name, "join-twice", 10) == 0)
         with_index_twice(w->order);
     if (strncmp(name, "crossing-", 9) == 0)
@@ -400,6 +429,9 @@ static void print_stacks(void)
     printf("tessarquin_strip %zu\n", touched(drawn) - none);
     printf("tessarquin_cut %zu\n", touched(by_4) - none);
     printf("tessarquin_combined %zu\n", touched(combined) - none);
+    make_line(1);
+    printf("tessarquin_setup_read %zu\n", touched(line_read) - none);
+    printf("tessarquin_setup_write %zu\n", touched(line_written) - none);
     printf("tessarquin_narrow %zu\n", touched(narrowed) - none);
     make_parts(0, 1000, IN_SMALL);
     printf("tessarquin_join %zu\n", touched(joined) - none);

@@ -236,6 +236,67 @@ void same_narrow_high(const uint8_t *restrict samples, size_t n, uint8_t *restri
         out[k] = samples[2 * k];
 }
 
+static const char keys[4][2] = {"SP", "NP", "FP", "SN"};
+
+/* Which key stands at a place, or 4. */
+static size_t key_at(const uint8_t *at)
+{
+    size_t k = 0;
+    while (k < 4 && memcmp(at, keys[k], 2) != 0)
+        k++;
+    return k;
+}
+
+/* Behind the word and its blank, or 0. */
+static size_t word_end(const uint8_t *line, size_t length)
+{
+    if (length >= 5 && memcmp(line, "WFSU ", 5) == 0)
+        return 5;
+    return length >= 15 && memcmp(line, "WAVEFORM_SETUP ", 15) == 0 ? 15 : 0;
+}
+
+int same_setup_read(const uint8_t *line, size_t length, uint32_t *setup)
+{
+    int taken[4] = {0};
+    size_t at = word_end(line, length);
+    memset(setup, 0, 4 * sizeof *setup);
+    for (int more = at != 0; more; at++) {
+        uint64_t value = 0;
+        size_t k = length - at < 3 ? 4 : key_at(line + at), digits = at += 3;
+        if (k == 4 || taken[k] || line[at - 1] != ',')
+            return 0;
+        for (; at < length && at - digits < 11 && line[at] >= '0' && line[at] <= '9'; at++)
+            value = 10 * value + (line[at] - '0');
+        if (at == digits || at - digits > 10 || value > UINT32_MAX)
+            return 0;
+        taken[k] = 1;
+        setup[k] = (uint32_t)value;
+        more = at < length;
+        if (more && line[at] != ',')
+            return 0;
+    }
+    return at > length;
+}
+
+size_t same_setup_write(const uint32_t *setup, uint8_t *out)
+{
+    uint8_t *to = out + 5;
+    memcpy(out, "WFSU ", 5);
+    for (size_t k = 0; k < 4; k++) {
+        uint8_t digits[10], *first = digits + 10;
+        uint32_t rest = setup[k];
+        do
+            *--first = (uint8_t)('0' + rest % 10);
+        while (rest /= 10);
+        memcpy(to, keys[k], 2);
+        to[2] = ',';
+        memcpy(to + 3, first, (size_t)(digits + 10 - first));
+        to += 3 + (digits + 10 - first);
+        *to++ = ',';
+    }
+    return (size_t)(to - 1 - out);
+}
+
 void same_copies(const uint8_t *parts, size_t length, size_t n, uint8_t *out)
 {
     for (size_t i = 0; i < n; i++)

@@ -1,4 +1,5 @@
-/* The same work in C, on samples whose place, order and calibration are known. Nothing is checked, but by the walk. */
+/* The same work in C, on samples whose place, order and calibration are known. Nothing is checked, but by the
+   walk and the reader of a line. */
 #include <stddef.h>
 #include <stdint.h>
 
@@ -38,6 +39,10 @@ void same_copy(const uint8_t *samples, size_t n, uint8_t *out);
 /* The high byte of each of n words. */
 void same_narrow_low(const uint8_t *samples, size_t n, uint8_t *out);
 void same_narrow_high(const uint8_t *samples, size_t n, uint8_t *out);
+
+/* The four numbers of a setup line, or 0 where it is none; and the normal line of a setup, whose length is answered. */
+int same_setup_read(const uint8_t *line, size_t length, uint32_t *setup);
+size_t same_setup_write(const uint32_t *setup, uint8_t *out);
 
 /* n parts of so many bytes, one by one. */
 void same_copies(const uint8_t *parts, size_t length, size_t n, uint8_t *out);
