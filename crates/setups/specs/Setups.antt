@@ -6,7 +6,7 @@ use mathlib.Core.Option.{Option, none, some}
 use lib.ListN.{length, getD}
 use Rattle.rules.specs.Numbers.{splice, unlessRefused}
 use Rattle.rules.specs.Cut as rules
-use Rattle.digits.specs.Digits.{valueOf}
+use Rattle.digits.specs.Digits.{places, valueOf}
 use Rattle.cuts.specs.Cuts.{setupAs, setupOf}
 use Rattle.lines.specs.Grammar.{Word, letters, Key, nth, Pair, numbersOf}
 use Rattle.lines.specs.Reader.{once?, readSetup, orZeros}
@@ -15,6 +15,7 @@ use Rattle.setups.specs.declared.Printed.{Printed}
 use Rattle.setups.specs.declared.Reading.{Reading}
 use Rattle.setups.specs.declared.Reading.the-variants.{Taken, Text}
 use Rattle.setups.specs.declared.reads.Found.{Found}
+use Rattle.setups.specs.declared.writes.Widths.{Widths}
 
 -- ---- a line read
 
@@ -62,6 +63,13 @@ pairsAs none = Text
 pairsAs (some ps) = cond (once? ps) (Taken (setupOf (numbersOf ps))) Text
 
 -- ---- a line written
+
+-- how many digits the four numbers have, and how many bytes their line has by these
+abbrev pub widthsOf : rules.Setup → Widths
+widthsOf c = record { sp = places (c .sp); np = places (c .np); fp = places (c .fp); sn = places (c .sn) }
+
+abbrev pub lineLength : Widths → ℕ
+lineLength w = 20 + (w .sp + w .np + w .fp + w .sn)
 
 -- 0 and the line's length; or 15 and 0
 abbrev pub printed : ℕ → ℕ → Printed

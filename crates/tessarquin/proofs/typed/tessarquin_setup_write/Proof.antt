@@ -49,8 +49,8 @@ returns-3 c =
     let made = none .before .before .before .before in
     let enough = made .before .before in
     let a = enough .before .before .before .args in
-    let w = made .write in
-    let r = write-answered (setup (a .sp) (a .np) (a .fp) (a .sn)) (a .out .now) (a .answer .now) (omega (arith, enough .if1 .left)) (w .result) _ (w .ensures .0) (w .ensures .1) (none .if2 .left) _ (put .put-u64 .ensures) in
+    let v = made .write in
+    let r = write-answered (setup (a .sp) (a .np) (a .fp) (a .sn)) (a .out .now) (a .answer .now) (omega (arith, enough .if1 .left)) (v .result) _ (v .ensures .0) (v .ensures .1) (none .if2 .left) _ (put .put-u64 .ensures) in
     (r .0, (r .1, r .2))
 
 pub tessarquin-setup-write-spec : {M : Type 1} → statement M

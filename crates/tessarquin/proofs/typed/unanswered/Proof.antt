@@ -10,10 +10,10 @@ length-of-requires : tie.Need-length-of-requires
 length-of-requires c κs = search needs
 
 returns : tie.Need-returns
-returns c = let a = c .before .before .args in untold-15 (setupAs (a .setup)) (a .room) (omega (arith, c .if1 .taken, c .before .length-of .ensures .0))
+returns c = let a = c .before .before .args in untold-15 (setupAs (a .setup)) (a .room) (omega (arith, c .if1 .taken, c .before .length-of .ensures))
 
 returns-2 : tie.Need-returns-2
-returns-2 c = let a = c .before .before .args in untold-13 (setupAs (a .setup)) (a .room) (omega (arith, c .if1 .left, c .before .length-of .ensures .0))
+returns-2 c = let a = c .before .before .args in untold-13 (setupAs (a .setup)) (a .room) (omega (arith, c .if1 .left, c .before .length-of .ensures))
 
 pub unanswered-spec : {M : Type 1} → statement M
 unanswered-spec = tie.close (tie.spec length-of-requires returns returns-2)
