@@ -10,7 +10,7 @@ use native.Mathlib.Omega.{arith}
 use lib.Ieee.{Float, binary64, toBits}
 use lib.ListN.{length, take, drop}
 use lib.Seq.{take-at}
-use Rattle.rules.specs.Numbers.{Bytes, number, bytes, allBytes, splice}
+use Rattle.rules.specs.Numbers.{Bytes, bytes, allBytes, splice}
 use Rattle.rules.specs.Rules.{opened}
 use Rattle.rules.specs.Points.{value, time, mark, markNumber, pointRefusal}
 use Rattle.rules.specs.Cut.{Setup, cutBytes, cutRefusal}

@@ -3,11 +3,11 @@
 -- normal line of that setup (`read-written`).
 use mathlib.Core.Path.{_≡_, refl, sym, ap, _∙_, subst}
 use mathlib.Core.Logic.{_↔_}
-use mathlib.Core.List.{List, [], _∷_}
-use Prim.Native.Nat.{ℕ, _≤_, _<_}
+use mathlib.Core.List.{List}
+use Prim.Native.Nat.{ℕ, _≤_}
 use native.Mathlib.Omega.{arith}
 use lib.ListN.{length, getD, take}
-use Rattle.rules.specs.Numbers.{numbers, splice}
+use Rattle.rules.specs.Numbers.{numbers}
 use Rattle.rules.specs.Cut.{Setup}
 use Rattle.rules.proofs.Demands.{Small}
 use Rattle.lines.specs.Grammar.{Says}
@@ -20,7 +20,7 @@ use Rattle.tessarquin.proofs.Slices.{number-enough, own-answered}
 use Rattle.tessarquin.proofs.Typing.{read-length, told-length}
 use Rattle.tessarquin.proofs.Writing.{numbers-read}
 use Rattle.tessarquin.proofs.Learnt.{SetupReadCall, SetupWriteCall}
-use Rattle.demands.proofs.Lengths.{longIn, Wrote, own-none, wrote-by}
+use Rattle.demands.proofs.Lengths.{longIn, Wrote, wrote-by}
 
 -- ---- a line read
 

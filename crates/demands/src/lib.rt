@@ -1,2 +1,2 @@
-// Requests [3], segments put where they belong, [8], narrow WORD to BYTE, and [10], however many times it was thinned, as the contracts of `joins::join`,
-// `narrows::narrow`, `cuts::cut` and `cuts::combined` say them across calls, and those of the calls for C: theorems (proofs/). No code.
+// Requests [1], setups typed as the scope takes them, [3], segments put where they belong, [4], where does it first cross, [8], narrow WORD to BYTE, [10], however
+// many times it was thinned, and [12], the strip viewer, as the contracts of the calls in Rattle and in C say them across calls: theorems (proofs/). No code.

@@ -6,26 +6,20 @@ use native.Mathlib.Nat.{pow-le-pow-right, pow-zero, pow-suc, zero-add, one-mul, 
 use native.Mathlib.Omega.{arith}
 use mathlib.Core.Bool.{Bool, true, false, cond, _&&_, false≢true}
 use mathlib.Core.List.{List, [], _∷_, _++_, map, reverse, reverse-append, reverse-reverse}
-use lib.ListN.{length, getD, take, drop, length-take, length-reverse}
-use lib.Seq.{take-suc, getD-drop, getD-take}
-use lib.Dec.{leb, ltb}
-use borrow.Author.Tests.{lt-ltb}
+use lib.ListN.{length, getD, take, length-reverse}
+use lib.Seq.{take-suc}
 use Rattle.rules.specs.Numbers.{Below, low, digits}
 use Rattle.rules.specs.Rules.{every?, digit?}
 use Rattle.rules.proofs.Tests.{and-true}
-use Rattle.rules.proofs.Numbers.{below-take, below-reverse, low-below, low-digits, digits-low, length-digits, below-digits}
+use Rattle.rules.proofs.Numbers.{below-reverse, low-below, low-digits, digits-low, length-digits, below-digits}
 use Rattle.rules.proofs.Frames.{digit-says}
 use Rattle.digits.specs.Digits.{places, digitsOf, valueOf, Shortest, digitsAt}
 use Rattle.digits.proofs.Spelled.{places-small, places-some, places-most, places-least, places-enough}
 
 -- ---- digits one by one
 
-module _ (b : ℕ) (t : List ℕ) where
-  pub digit-first : digit? b ≡ true → digitsAt (b ∷ t) ≡ (b - 48) ∷ digitsAt t
-  digit-first e = ap (λ (d : Bool). cond d ((b - 48) ∷ digitsAt t) []) e
-
-  pub digit-none : digit? b ≡ false → digitsAt (b ∷ t) ≡ []
-  digit-none e = ap (λ (d : Bool). cond d ((b - 48) ∷ digitsAt t) []) e
+pub digit-first : (b : ℕ) (t : List ℕ) → digit? b ≡ true → digitsAt (b ∷ t) ≡ (b - 48) ∷ digitsAt t
+digit-first b t e = ap (λ (d : Bool). cond d ((b - 48) ∷ digitsAt t) []) e
 
 -- byte i is a digit, and so are those before it
 pub digit-more : (t : List ℕ) (i : ℕ) → i ≤ length (digitsAt t) → i < length t → digit? (getD t i 0) ≡ true → i < length (digitsAt t)
@@ -79,7 +73,7 @@ digit-at (b ∷ t) k h = go (digit? b) k h (digit-at t)
 
 -- ---- their number
 
-pub value-snoc : (ds : List ℕ) (d : ℕ) → valueOf (ds ++ (d ∷ [])) ≡ valueOf ds * 10 + d
+value-snoc : (ds : List ℕ) (d : ℕ) → valueOf (ds ++ (d ∷ [])) ≡ valueOf ds * 10 + d
 unfolding low
 value-snoc ds d = ap (low 10) (reverse-append ds (d ∷ [])) ∙ omega arith
 

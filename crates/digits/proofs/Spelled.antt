@@ -1,4 +1,4 @@
--- Numbers as text: a digit more (`spelled-suc`), the count of decimal digits (`places-step`, `places-least`, `places-enough`), and a turn of the loop that writes them (`digit-step`).
+-- Numbers as text: the count of decimal digits (`places-step`, `places-least`, `places-enough`), and a turn of the loop that writes them (`digit-step`).
 use mathlib.Core.Path.{_≡_, refl, sym, ap, ap₂, _∙_}
 use mathlib.Core.Bool.{Bool, true, false, cond}
 use mathlib.Core.List.{List, [], _∷_, _++_, map, reverse, reverse-cons, map-append, append-assoc}
@@ -15,7 +15,7 @@ use Rattle.digits.specs.Digits.{sign, spelled, placesBy, places}
 
 -- ---- digits
 
-pub spelled-suc : (b w n : ℕ) → spelled b (suc w) n ≡ spelled b w (n / b) ++ (sign (n % b) ∷ [])
+spelled-suc : (b w n : ℕ) → spelled b (suc w) n ≡ spelled b w (n / b) ++ (sign (n % b) ∷ [])
 unfolding spelled digits
 spelled-suc b w n = ap (map sign) (reverse-cons (n % b) (digits b w (n / b))) ∙ map-append sign (reverse (digits b w (n / b))) (n % b ∷ [])
 

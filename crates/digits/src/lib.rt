@@ -13,7 +13,7 @@ pub struct Run {
     pub value: u64,
 }
 
-// The decimal digits that stand first in the `most` bytes from `from`. So many fit 64 bits: nineteen.
+// The decimal digits that stand first in the `most` bytes from `from`: nineteen at most, which fit 64 bits.
 pub fn read(s: &[u8], from: usize, most: usize) -> Run
     requires { ⌜ (from + most ≤ length (now s)) × (most ≤ 19) ⌝ }
     ensures { λ r. ⌜ r ≡ runOf (take most (drop from (now (s .entry)))) ⌝ }

@@ -6,10 +6,8 @@ use Prim.Native.Nat.{ℕ, _-_, _≤_}
 use native.Mathlib.Omega.{arith}
 use lib.ListN.{length, take, drop, length-take, length-drop, length-map}
 use Rattle.rules.specs.Rules.{every?, digit?, digitCount, stated, payloadStart}
-use Rattle.digits.specs.Digits.{digitsAt, valueOf, runOf}
-use Rattle.digits.specs.declared.Run.{Run}
+use Rattle.digits.specs.Digits.{digitsAt, valueOf}
 use Rattle.digits.proofs.Runs.{digits-all, digits-whole}
-use Rattle.frames.specs.declared.Header.{Header}
 use Rattle.frames.specs.Headers.{unframedAs, headerBy}
 
 -- the bytes where the digits stand

@@ -15,7 +15,7 @@ use Rattle.rules.specs.Rules.{same}
 use Rattle.rules.specs.Cut.{Setup}
 use Rattle.rules.proofs.Tests.{and-true, and-intro}
 use Rattle.rules.proofs.Numbers.{same-eq}
-use Rattle.lines.specs.Grammar.{Word, Short, Long, letters, Key, nth, Pair, Line, Value, Absent, Once, Values, Good, comma, blank, pairText, pairsText, lineText, numbersOf, Says}
+use Rattle.lines.specs.Grammar.{Word, Short, Long, letters, Key, nth, Pair, Line, Value, Absent, Once, Values, Good, comma, blank, pairText, pairsText, lineText, Says}
 use Rattle.lines.specs.Reader.{given, pairAt, before, behind, pairsBy, pairsAt, taken?, once?, wordAt, lineBy, restBy, lineIn, setupBy, readSetup, refusalBy, readRefusal, orZeros}
 use Rattle.lines.proofs.Pairs.{given-says, pair-sound, pair-complete, length-pair}
 

@@ -148,7 +148,7 @@ normal-one l g n =
 -- ---- writing what was read
 
 -- a number of a line fits 32 bits
-pub number-fits : (k : Key) (ps : List Pair) → Values ps → numberOf k ps < 4294967296
+number-fits : (k : Key) (ps : List Pair) → Values ps → numberOf k ps < 4294967296
 number-fits k [] v = omega arith
 number-fits k (p ∷ ps) v = go (eqb (nth k) (nth (p .key))) (number-fits k ps (v .1))
   where

@@ -11,7 +11,6 @@ use Rattle.cuts.specs.Cuts.{setupOf}
 use Rattle.lines.specs.Grammar.{Word, Short, Long, letters, Pair, blank, numbersOf}
 use Rattle.lines.specs.Reader.{given, once?, pairsAt, wordAt, lineBy, restBy, lineIn, setupBy, readSetup}
 use Rattle.lines.proofs.Reading.{word-sound}
-use Rattle.setups.specs.declared.Reading.{Reading}
 use Rattle.setups.specs.declared.Reading.the-variants.{Taken, Text}
 use Rattle.setups.specs.Setups.{readingOf, readingAs, wordAs, pairsAs}
 

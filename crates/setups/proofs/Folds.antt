@@ -8,7 +8,6 @@ use native.Mathlib.Omega.{arith}
 use mathlib.Core.Bool.{Bool, true, false, cond, not, _&&_, _||_}
 use mathlib.Core.List.{List, [], _∷_}
 use mathlib.Core.Option.{Option, none, some}
-use lib.Arith.{lt-of-le-ne}
 use lib.ListN.{length, getD, drop, set, length-set, length-append, length-drop, drop-of-length-le}
 use lib.Seq.{drop-cons, drop-drop, getD-set-same, getD-set-other}
 use lib.Dec.{eqb}
@@ -129,10 +128,6 @@ module _ (line : List ℕ) (at left : ℕ) (vs : List ℕ) (r : Found) (e : r �
           omega (arith, ap length (pair-sound (drop at line) p q .1), length-append (pairText p) (drop (3 + length (p .digits)) (drop at line)), length-pair p, length-drop at line, h),
         ))
         there
-
-    -- its value is not the one that stands for a missing pair
-    pub found-value : r .value < missing
-    found-value = by-case (λ x a. (x .key ≡ 4 → ⊥) → x .value < missing) (λ k. absurd (k refl)) (λ p q k. omega (arith, pair-sound (drop at line) p q .0 .fits)) there
 
     pub step-twice : (getD vs (r .key) 0 ≡ missing → ⊥) → Text ≡ Ahead
     step-twice = by-case (λ x a. (x .key ≡ 4 → ⊥) → (getD vs (x .key) 0 ≡ missing → ⊥) → Text ≡ a) (λ k. absurd (k refl)) (λ p q k h. sym (here-twice line at (left - 1) vs p h)) there

@@ -14,7 +14,6 @@ use Rattle.lines.specs.Grammar.{lineText}
 use Rattle.lines.specs.Writer.{normalLine, setupLine, writeRefusal}
 use Rattle.lines.proofs.Writing.{too-short, writes}
 use Rattle.setups.specs.Setups.{printed, printedAs, outAs}
-use Rattle.setups.specs.declared.Printed.{Printed}
 
 -- a text copied whole, and the digits of n behind it
 pub pair-written : (out text : List ℕ) (at n : ℕ) (mid : List ℕ) → mid ≡ splice out at (part text 0 (length text)) → (w : ℕ) → w ≡ places n

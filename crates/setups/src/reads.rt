@@ -2,7 +2,7 @@
 use crate::Reading;
 use cuts::Setup;
 ghost use mathlib.Core.Path.{_≡_};
-ghost use Prim.Native.Nat.{_+_, _≤_, _<_, min};
+ghost use Prim.Native.Nat.{_+_, _≤_, min};
 ghost use lib.ListN.{length, take, drop};
 ghost use Rattle.rules.specs.Rules.{same};
 ghost use Rattle.cuts.specs.Cuts.{setupAs};
@@ -13,10 +13,10 @@ ghost use Rattle.setups.specs.Setups.{readingAs, wordAs, keyAs, foundAs,
 const MISSING: u64 = 4294967296;
 
 // A pair: which of SP, NP, FP and SN its key is, its value, and where it ends. The key is 4 where there is no pair.
-pub struct Found {
-    pub key: usize,
-    pub value: u64,
-    pub next: usize,
+struct Found {
+    key: usize,
+    value: u64,
+    next: usize,
 }
 
 // Reads a setup line.
@@ -124,7 +124,7 @@ fn pair_at(line: &[u8], at: usize) -> Found
     }
 }
 
-// n, or 11 where it is more: one byte more than a value has at most.
+// n, or 11 where it is more: one digit more than a value has at most.
 fn at_most_11(n: usize) -> usize
     ensures { λ r. ⌜ r ≡ min 11 n ⌝ }
 {

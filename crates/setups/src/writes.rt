@@ -13,11 +13,11 @@ ghost use Rattle.lines.specs.Writer.{setupLine};
 ghost use Rattle.setups.specs.Setups.{widthsOf, lineLength, printedAs, outAs};
 
 // How many decimal digits each of the four numbers has.
-pub struct Widths {
-    pub sp: usize,
-    pub np: usize,
-    pub fp: usize,
-    pub sn: usize,
+struct Widths {
+    sp: usize,
+    np: usize,
+    fp: usize,
+    sn: usize,
 }
 
 // Writes the normal line of a setup at out's start. Refused, it writes nothing.

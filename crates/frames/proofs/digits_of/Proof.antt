@@ -1,8 +1,8 @@
 -- Fewer digits than d, or all d of them.
-use mathlib.Core.Path.{_≡_, refl, sym, ap, _∙_}
+use mathlib.Core.Path.{_≡_, sym, ap, _∙_}
 use Prim.Native.Nat.{ℕ, _-_}
 use native.Mathlib.Omega.{arith}
-use lib.ListN.{length, take, drop}
+use lib.ListN.{take, drop}
 use Rattle.rules.specs.Rules.{digitCount}
 use Rattle.digits.specs.Digits.{runOf}
 use Rattle.digits.specs.declared.Run.{Run}

@@ -1,12 +1,11 @@
 -- Each return is one outcome of the pair that stands there.
 use mathlib.Core.Path.{_≡_, sym, ap, _∙_}
-use mathlib.Core.Bool.{true, false}
 use mathlib.Core.List.{List}
-use Prim.Native.Nat.{ℕ, _+_, _-_, _≤_, _<_, min}
+use Prim.Native.Nat.{ℕ, _+_, _-_, min}
 use native.Mathlib.Omega.{arith}
-use lib.ListN.{length, getD, take, drop, length-drop}
+use lib.ListN.{length, take, drop, length-drop}
 use borrow.Author.Tests.{not-true, not-false}
-use Rattle.digits.specs.Digits.{digitsAt, runOf}
+use Rattle.digits.specs.Digits.{runOf}
 use Rattle.digits.specs.declared.Run.{Run}
 use Rattle.digits.proofs.Runs.{digits-few}
 use Rattle.setups.proofs.Steps.{too-short, no-key, no-comma, no-value, pair-found, tested-is, run-found}

@@ -1,5 +1,5 @@
 -- No word, or what the pairs behind it say.
-use mathlib.Core.Path.{_≡_, sym, ap, _∙_, subst}
+use mathlib.Core.Path.{sym, ap, _∙_, subst}
 use Prim.Native.Nat.{ℕ, _≤_}
 use lib.ListN.{length, drop}
 use Rattle.lines.specs.Reader.{pairsAt}

@@ -1,10 +1,10 @@
 -- Pair after pair: what comes of those that are left, with the values of those before them, is what all the pairs say.
 use mathlib.Core.Path.{_≡_, refl, sym, ap, _∙_}
 use mathlib.Core.List.{List}
-use Prim.Native.Nat.{ℕ, _+_, _-_, _≤_, _<_}
+use Prim.Native.Nat.{ℕ, _-_, _≤_, _<_}
 use native.Mathlib.Omega.{arith}
 use lib.Arith.{lt-of-le-ne}
-use lib.ListN.{length, getD, drop, set, length-set}
+use lib.ListN.{length, drop, length-set}
 use Rattle.rules.specs.Cut.{Setup}
 use Rattle.cuts.specs.Cuts.{setupOf}
 use Rattle.lines.specs.Reader.{pairsAt}

@@ -1,5 +1,5 @@
 -- By the digits of the four numbers.
-use mathlib.Core.Path.{_≡_, sym, ap, _∙_}
+use mathlib.Core.Path.{sym, ap, _∙_}
 use Rattle.cuts.specs.Cuts.{setupAs}
 use Rattle.lines.proofs.Writing.{length-line}
 use Rattle.setups.specs.Setups.{lineLength}

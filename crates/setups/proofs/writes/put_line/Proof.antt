@@ -1,7 +1,6 @@
 -- The four pairs one behind the other.
 use mathlib.Core.Path.{_≡_, ap, _∙_}
-use mathlib.Core.List.{List}
-use Prim.Native.Nat.{ℕ, _+_, _≤_}
+use Prim.Native.Nat.{_+_}
 use native.Mathlib.Omega.{arith}
 use Rattle.rules.specs.Numbers.{splice}
 use Rattle.digits.specs.Digits.{places}

@@ -1,5 +1,4 @@
 -- No number of 32 bits has more than ten digits.
-use mathlib.Core.Path.{_≡_}
 use Prim.Native.Nat.{_≤_}
 use native.Mathlib.Omega.{arith}
 use Rattle.digits.specs.Digits.{places}

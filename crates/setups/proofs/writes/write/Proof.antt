@@ -1,6 +1,5 @@
 -- Too short, or written.
 use mathlib.Core.Path.{_≡_, sym, ap, _∙_}
-use Prim.Native.Nat.{_≤_}
 use native.Mathlib.Omega.{arith}
 use lib.ListN.{length}
 use Rattle.cuts.specs.Cuts.{setupAs}
