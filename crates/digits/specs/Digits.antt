@@ -54,6 +54,6 @@ abbrev pub digitsAt : List ℕ → List ℕ
 digitsAt [] = []
 digitsAt (b ∷ bs) = cond (digit? b) ((b - 48) ∷ digitsAt bs) []
 
--- how many they are, and their number
-abbrev pub runOf : List ℕ → Run
-runOf t = record { count = length (digitsAt t); value = valueOf (digitsAt t) }
+-- where they end, in a text that starts at `from`, and their number
+abbrev pub runOf : ℕ → List ℕ → Run
+runOf from t = record { end = from + length (digitsAt t); value = valueOf (digitsAt t) }

@@ -1,34 +1,34 @@
 // Digits of a text: decimal ones read, and a number's digits written over a lent buffer.
 ghost use mathlib.Core.Path.{_≡_};
-ghost use Prim.Native.Nat.{_+_, _≤_, _<_};
+ghost use Prim.Native.Nat.{_+_, _-_, _≤_, _<_};
 ghost use lib.ListN.{length, take, drop};
 ghost use Rattle.rules.specs.Numbers.{splice};
 ghost use Rattle.rules.specs.Rules.{digit?};
 ghost use Rattle.digits.specs.Digits.{sign, spelled, runOf};
 ghost use Rattle.digits.specs.Digits.{places as Digits·places};
 
-// Decimal digits one behind the other: how many, and their number.
+// Decimal digits one behind the other: where they end, and their number.
 pub struct Run {
-    pub count: usize,
+    pub end: usize,
     pub value: u64,
 }
 
-// The decimal digits that stand first in the `most` bytes from `from`: nineteen at most, which fit 64 bits.
-pub fn read(s: &[u8], from: usize, most: usize) -> Run
-    requires { ⌜ (from + most ≤ length (now s)) × (most ≤ 19) ⌝ }
-    ensures { λ r. ⌜ r ≡ runOf (take most (drop from (now (s .entry)))) ⌝ }
+// The decimal digits that stand first from `from` on, up to `to`: nineteen at most, which fit 64 bits.
+pub fn read(s: &[u8], from: usize, to: usize) -> Run
+    requires { ⌜ (from ≤ to) × (to ≤ from + 19) × (to ≤ length (now s)) ⌝ }
+    ensures { λ r. ⌜ r ≡ runOf from (take (to - from) (drop from (now (s .entry)))) ⌝ }
 {
     let mut value: u64 = 0;
-    let mut i = 0;
-    while i < most {
-        let b = s[from + i] as u64;
+    let mut at = from;
+    while at < to {
+        let b = s[at] as u64;
         if !is_digit(b) {
-            return Run { count: i, value };
+            return Run { end: at, value };
         }
         value = value * 10 + (b - 48);
-        i += 1;
+        at += 1;
     }
-    Run { count: i, value }
+    Run { end: at, value }
 }
 
 // Whether a byte is a decimal digit.

@@ -1,6 +1,7 @@
 -- A key and a pair as the code reads them, test after test: which key (`key-is`), no pair (`too-short`, `no-key`, `no-comma`, `no-value`), or one (`pair-found`).
 use mathlib.Core.Path.{_≡_, refl, sym, ap, ap₂, _∙_}
-use Prim.Native.Nat.{ℕ, suc, _+_, _≤_, _<_, min}
+use Prim.Native.Nat.{ℕ, suc, _+_, _-_, _≤_, _<_, min}
+use native.Mathlib.Nat.{add-sub-cancel-left}
 use native.Mathlib.Numerals.{add-one}
 use native.Mathlib.Omega.{arith}
 use mathlib.Core.Bool.{Bool, true, false, cond, _&&_, false≢true}
@@ -123,19 +124,26 @@ module _ (u : List ℕ) where
       go true f g = take-all (min 11 n) u (omega (arith, f refl)) ∙ sym (take-all 11 u (omega (arith, f refl)))
       go false f g = let m : min 11 n ≡ 11 = omega (arith, g refl) in ap (λ (k : ℕ). take k u) m
 
--- the code's test of what it read
-abbrev pub tested : Run → Bool
-tested r = (leb 1 (r .count) && leb (r .count) 10) && leb (r .value) 4294967295
+-- the code's test of what it read from `from` on
+abbrev pub tested : ℕ → Run → Bool
+tested from r = (leb 1 (r .end - from) && leb (r .end - from) 10) && leb (r .value) 4294967295
 
-joined : (ds : List ℕ) → (leb 1 (length ds) && leb (length ds) 10) && leb (valueOf ds) 4294967295 ≡ value? ds
-joined ds = simp (and-assoc, and-end)
+joined : (from : ℕ) (ds : List ℕ) → (leb 1 (from + length ds - from) && leb (from + length ds - from) 10) && leb (valueOf ds) 4294967295 ≡ value? ds
+joined from ds = ap (λ (n : ℕ). (leb 1 n && leb n 10) && leb (valueOf ds) 4294967295) (add-sub-cancel-left from (length ds)) ∙ simp (and-assoc, and-end)
 
-module _ (u : List ℕ) (n : ℕ) (l : n ≡ length u) (r : Run) (e : r ≡ runOf (take (min 11 n) u)) where
-  run-is : r ≡ runOf (take 11 u)
-  run-is = e ∙ ap runOf (start-is u n l)
+module _ (from : ℕ) (u : List ℕ) (n : ℕ) (l : n ≡ length u) (r : Run) (e : r ≡ runOf from (take (from + min 11 n - from) u)) where
+  run-is : r ≡ runOf from (take 11 u)
+  run-is = e ∙ ap (λ (k : ℕ). runOf from (take k u)) (add-sub-cancel-left from (min 11 n)) ∙ ap (runOf from) (start-is u n l)
 
-  pub tested-is : tested r ≡ value? (digitsAt u)
-  tested-is = ap tested run-is ∙ joined (digitsAt (take 11 u)) ∙ eleven u (ltb (length (digitsAt (take 11 u))) 11) refl .0
+  pub tested-is : tested from r ≡ value? (digitsAt u)
+  tested-is = ap (tested from) run-is ∙ joined from (digitsAt (take 11 u)) ∙ eleven u (ltb (length (digitsAt (take 11 u))) 11) refl .0
 
-  pub run-found : tested r ≡ true → r ≡ runOf u
-  run-found t = run-is ∙ ap (λ (ds : List ℕ). record { count = length ds; value = valueOf ds }) (eleven u (ltb (length (digitsAt (take 11 u))) 11) refl .1 (sym (joined (digitsAt (take 11 u))) ∙ sym (ap tested run-is) ∙ t))
+  pub run-found : tested from r ≡ true → r ≡ runOf from u
+  run-found t =
+      run-is
+      ∙ ap (λ (ds : List ℕ). record { end = from + length ds; value = valueOf ds })
+      (eleven u (ltb (length (digitsAt (take 11 u))) 11) refl .1 (sym (joined from (digitsAt (take 11 u))) ∙ sym (ap (tested from) run-is) ∙ t))
+
+  -- what was read ends where it starts, or behind
+  pub run-behind : from ≤ r .end
+  run-behind = omega (arith, ap (λ (x : Run). x .end) run-is)

@@ -113,14 +113,15 @@ fn pair_at(line: &[u8], at: usize) -> Found
         return none;
     }
     let from = at + 3;
-    let run = digits::read(line, from, at_most_11(line.len() - from));
-    if !((1 <= run.count) & (run.count <= 10) & (run.value <= 4294967295)) {
+    let run = digits::read(line, from, from + at_most_11(line.len() - from));
+    let count = run.end - from;
+    if !((1 <= count) & (count <= 10) & (run.value <= 4294967295)) {
         return none;
     }
     Found {
         key,
         value: run.value,
-        next: from + run.count,
+        next: run.end,
     }
 }
 

@@ -5,10 +5,9 @@ use Prim.Native.Nat.{ℕ, _+_, _-_, min}
 use native.Mathlib.Omega.{arith}
 use lib.ListN.{length, take, drop, length-drop}
 use borrow.Author.Tests.{not-true, not-false}
-use Rattle.digits.specs.Digits.{runOf}
-use Rattle.digits.specs.declared.Run.{Run}
-use Rattle.digits.proofs.Runs.{digits-few}
-use Rattle.setups.proofs.Steps.{too-short, no-key, no-comma, no-value, pair-found, tested-is, run-found}
+use Rattle.digits.specs.Digits.{digitsAt, runOf}
+use Rattle.lines.specs.Reader.{value?}
+use Rattle.setups.proofs.Steps.{too-short, no-key, no-comma, no-value, pair-found, tested, tested-is, run-found, run-behind}
 use borrow.Author.Needs.{needs}
 use Rattle.setups.proofs.reads.pair_at.Statement.{statement}
 use Rattle.setups.proofs.reads.pair_at.Tie as tie
@@ -43,52 +42,53 @@ sub-at-most-11 c = search needs
 at-most-11-requires : tie.Need-at-most-11-requires
 at-most-11-requires c κs = search needs
 
+add-read : tie.Need-add-read
+add-read c = omega (arith, c .at-most-11 .ensures)
+
 read-requires : tie.Need-read-requires
 read-requires c κs =
     let a = c .before .before .before .before .before .before .before in
     let e = c .at-most-11 .ensures in
-    (omega (arith, e, a .pre, c .before .before .before .before .before .if1 .left), omega (arith, e))
+    (omega arith, omega (arith, e), omega (arith, e, a .pre, c .before .before .before .before .before .if1 .left))
 
--- what stands behind the comma, and what was read of it
+-- where a value stands: behind the comma
+abbrev from : tie.After-read → ℕ
+from c = c .before .before .before .before .before .before .before .before .args .at + 3
+
 abbrev value : tie.After-read → List ℕ
-value c = let a = c .before .before .before .before .before .before .before .before .args in drop (a .at + 3) (a .line .now)
+value c = drop (from c) (c .before .before .before .before .before .before .before .before .args .line .now)
 
 abbrev room : tie.After-read → ℕ
-room c = let a = c .before .before .before .before .before .before .before .before .args in length (a .line .now) - (a .at + 3)
+room c = length (c .before .before .before .before .before .before .before .before .args .line .now) - from c
 
 room-is : (c : tie.After-read) → room c ≡ length (value c)
-room-is c = let a = c .before .before .before .before .before .before .before .before .args in sym (length-drop (a .at + 3) (a .line .now))
+room-is c = sym (length-drop (from c) (c .before .before .before .before .before .before .before .before .args .line .now))
 
-run-is : (c : tie.After-read) → c .read .result ≡ runOf (take (min 11 (room c)) (value c))
-run-is c = c .read .ensures ∙ ap (λ (n : ℕ). runOf (take n (value c))) (c .before .at-most-11 .ensures)
+-- and what was read of it
+run-is : (c : tie.After-read) → c .read .result ≡ runOf (from c) (take (from c + min 11 (room c) - from c) (value c))
+run-is c = c .read .ensures ∙ ap (λ (n : ℕ). runOf (from c) (take (from c + n - from c) (value c))) (c .before .at-most-11 .ensures)
+
+sub-count : tie.Need-sub-count
+sub-count c = let r : tie.After-read = c .before in run-behind (from r) (value r) (room r) (room-is r) (r .read .result) (run-is r)
+
+-- whether it is a value
+test-is : (r : tie.After-read) → tested (from r) (r .read .result) ≡ value? (digitsAt (value r))
+test-is r = tested-is (from r) (value r) (room r) (room-is r) (r .read .result) (run-is r)
 
 returns-4 : tie.Need-returns-4
 returns-4 c =
-    let r : tie.After-read = c .before .before .before .before in
+    let r : tie.After-read = c .before .before .before in
     let a = r .before .before .before .before .before .before .before .before .args in
-    no-value (a .line .now) (a .at) (sym (tested-is (value r) (room r) (room-is r) (r .read .result) (run-is r)) ∙ not-true _ (c .if4 .taken))
-
--- it is a value
-whole : (c : tie.Else4) → c .before .before .before .before .read .result ≡ runOf (value (c .before .before .before .before))
-whole c = let r : tie.After-read = c .before .before .before .before in run-found (value r) (room r) (room-is r) (r .read .result) (run-is r) (not-false _ (c .if4 .left))
-
-add-t12 : tie.Need-add-t12
-add-t12 c =
-    let e : tie.Else4 = c .before in
-    let r : tie.After-read = e .before .before .before .before in
-    let s = r .before .before .before .before .before .before .before .before in
-    omega (arith, ap (λ (x : Run). x .count) (whole e), digits-few (value r), room-is r, s .pre)
+    no-value (a .line .now) (a .at) (sym (test-is r) ∙ not-true _ (c .if4 .taken))
 
 returns-5 : tie.Need-returns-5
 returns-5 c =
-    let e : tie.Else4 = c .before in
-    let r : tie.After-read = e .before .before .before .before in
+    let r : tie.After-read = c .before .before .before in
     let k = r .before .before .before .before .before in
     let a = k .before .before .before .args in
-    let w = whole e in
-    (λ i. record { key = k .key-at .ensures i; value = w i .value; next = a .at + 3 + w i .count })
-    ∙ pair-found (a .line .now) (a .at) (λ z. r .before .before .before .before .if2 .left (k .key-at .ensures ∙ z)) (r .before .before .if3 .left)
-    (sym (tested-is (value r) (room r) (room-is r) (r .read .result) (run-is r)) ∙ not-false _ (e .if4 .left))
+    let w = run-found (from r) (value r) (room r) (room-is r) (r .read .result) (run-is r) (not-false _ (c .if4 .left)) in
+    (λ i. record { key = k .key-at .ensures i; value = w i .value; next = w i .end })
+    ∙ pair-found (a .line .now) (a .at) (λ z. r .before .before .before .before .if2 .left (k .key-at .ensures ∙ z)) (r .before .before .if3 .left) (sym (test-is r) ∙ not-false _ (c .if4 .left))
 
 pub pair-at-spec : {M : Type 1} → statement M
 pair-at-spec =
@@ -104,7 +104,8 @@ pair-at-spec =
     add-from
     sub-at-most-11
     at-most-11-requires
+    add-read
     read-requires
+    sub-count
     returns-4
-    add-t12
     returns-5)
