@@ -2,10 +2,11 @@
 use mathlib.Core.Path.{_≡_, sym, ap, _∙_}
 use Prim.Native.Nat.{ℕ, _+_, _-_}
 use native.Mathlib.Omega.{arith}
-use lib.ListN.{length, take, drop}
+use lib.ListN.{length, take, drop, length-take}
 use Rattle.rules.specs.Rules.{digitCount}
 use Rattle.digits.specs.Digits.{digitsAt, runOf}
 use Rattle.digits.specs.declared.Run.{Run}
+use Rattle.digits.proofs.Runs.{digits-few}
 use Rattle.frames.proofs.Digits.{standing, digits-fewer, digits-read}
 use borrow.Author.Needs.{needs}
 use Rattle.frames.proofs.digits_of.Statement.{statement}
@@ -32,13 +33,15 @@ returns c =
     let r = c .before .before .before in
     let a = r .before .before in
     c .unframed .ensures
-    ∙ digits-fewer (a .args .block .now) (omega (arith, a .pre .0, a .pre .2)) (λ n. c .before .if1 .taken (omega (arith, ends r, n, a .pre .0)))
+    ∙ digits-fewer (a .args .block .now) (omega (arith, a .pre .0, a .pre .2)) (λ n. omega (arith, ends r, n, a .pre .0, c .before .if1 .taken))
 
 returns-2 : tie.Need-returns-2
 returns-2 c =
     let r = c .before .before in
     let a = r .before .before in
-    digits-read (a .args .block .now) (omega (arith, a .pre .0, a .pre .2)) (omega (arith, ends r, c .if1 .left, a .pre .0)) (a .args .start) (r .read .result .value) (a .pre .0)
+    let few = digits-few (standing (a .args .block .now)) in
+    let most = length-take (digitCount (a .args .block .now)) (drop 2 (a .args .block .now)) in
+    digits-read (a .args .block .now) (omega (arith, a .pre .0, a .pre .2)) (omega (arith, ends r, c .if1 .left, a .pre .0, few, most)) (a .args .start) (r .read .result .value) (a .pre .0)
     (ap (λ (x : Run). x .value) (run-is r))
 
 pub digits-of-spec : {M : Type 1} → statement M
