@@ -1,6 +1,6 @@
--- Setup lines, by the contracts of the two calls for C and the numbers in the bytes that they left: `tessarquin_setup_read` returns 0 with these numbers exactly where the grammar has the
--- line with them (`setup-said`), and 15 exactly where it has none (`setup-unsaid`); what `tessarquin_setup_write` wrote is read back (`written-read`), and what was read is written as the one
--- normal line of that setup (`read-written`).
+-- Setup lines, by the contracts of the two calls for C and the numbers in the bytes that they left: `tessarquin_setup_read` returns 0 with the numbers of the line where the grammar has it
+-- (`setup-said`), and only there (`read-told`), and 15 exactly where it has none (`setup-unsaid`); what `tessarquin_setup_write` wrote is read back (`written-read`), and what was read is
+-- written as the one normal line of that setup (`read-written`).
 use mathlib.Core.Path.{_≡_, refl, sym, ap, _∙_, subst}
 use mathlib.Core.Logic.{_↔_}
 use mathlib.Core.List.{List}

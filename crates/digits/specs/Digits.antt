@@ -39,7 +39,7 @@ hex n = spelled 16 16 n
 
 -- ---- digits in a text
 
--- the number of decimal digits, the highest first; zeros before them change nothing
+-- the number that decimal digits are, the highest first; zeros before them change nothing
 abbrev pub valueOf : List ℕ → ℕ
 valueOf ds = low 10 (reverse ds)
 

@@ -43,8 +43,8 @@ returns-2 c =
     let e = c .before .before .before .before in
     let l = e .before in
     let a = l .before .before .before .args in
-    let r = write-done (setupAs (a .setup)) (a .out .now) (omega (arith, e .if1 .left, long l)) (l .line-length .result) (long l) _ (c .before .before .put-line .ensures) in
-    (r .0, r .1)
+    let w = write-done (setupAs (a .setup)) (a .out .now) (omega (arith, e .if1 .left, long l)) (l .line-length .result) (long l) _ (c .before .before .put-line .ensures) in
+    (w .0, w .1)
 
 pub write-spec : {M : Type 1} → statement M
 write-spec =
