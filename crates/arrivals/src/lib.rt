@@ -1,4 +1,6 @@
 // The parts of a join as they arrive, in any order: each is judged, compared with the first, and its index noted, in one way through them.
+#![tactic(auto)]
+
 mod times;
 
 ghost use Rattle.std.specs.Prelude.{◌≡◌, true, cond, ℕ, ◌<◌, length, eqb};
@@ -11,7 +13,7 @@ use parts::Part;
 pub use times::rise;
 
 // 0, how many parts there are, and where the first of them ends; or the number of the join's refusal and zeros.
-#[derive(Drop)]
+#[derive(Clone, Copy)]
 pub struct Judged {
     pub refusal: u32,
     pub count: usize,

@@ -1,4 +1,6 @@
 // Where a segment first crosses a level: refusals 1 to 8, 20, 9 and 10, then the first point whose value is at or above it.
+#![tactic(auto)]
+
 mod scan;
 
 ghost use Rattle.std.specs.Prelude.{◌≡◌, T};
@@ -13,7 +15,7 @@ use block::Opened;
 pub use scan::first_behind;
 
 // The first point at or above a level, or that there is none, or the number of the refusal.
-#[derive(Drop)]
+#[derive(Clone, Copy)]
 pub enum Crossing {
     At { point: u32 },
     Nowhere,
@@ -21,7 +23,7 @@ pub enum Crossing {
 }
 
 // An answer by its numbers: the refusal's, 1 for a point and 0 for none, and the point's.
-#[derive(Drop)]
+#[derive(Clone, Copy)]
 pub struct Told {
     pub refusal: u32,
     pub found: u32,

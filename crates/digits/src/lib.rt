@@ -1,4 +1,6 @@
 // Digits of a text: decimal ones read, and a number's digits written over a lent buffer.
+#![tactic(auto)]
+
 ghost use Rattle.std.specs.Prelude.{◌≡◌, ◌+◌, ◌-◌, ◌≤◌, ◌<◌, length, take, drop};
 ghost use Rattle.rules.specs.Numbers.{splice};
 ghost use Rattle.rules.specs.Rules.{digit?};
@@ -6,7 +8,7 @@ ghost use Rattle.digits.specs.Digits.{sign, spelled, run_of};
 ghost use Rattle.digits.specs.Digits.{places as Digits·places};
 
 // Decimal digits one behind the other: where they end, and their number.
-#[derive(Drop)]
+#[derive(Clone, Copy)]
 pub struct Run {
     pub end: usize,
     pub value: u64,

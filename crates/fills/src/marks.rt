@@ -3,7 +3,7 @@ ghost use Rattle.std.specs.Prelude.{◌≡◌, ◌≤◌, length};
 ghost use Rattle.rules.specs.Points.{at_rail, mark_number, mark_count_of};
 
 // How many samples were filled, and how many of them stand at the rail.
-#[derive(Drop)]
+#[derive(Clone, Copy)]
 pub struct Run {
     pub samples: usize,
     pub marks: usize,

@@ -1,4 +1,6 @@
 // The front of a joined block: its header, the descriptor with the fields that follow from the number of parts, and the user text.
+#![tactic(auto)]
+
 ghost use Rattle.std.specs.Prelude.{◌≡◌, ◌++◌, ◌+◌, ◌≤◌, length, get_or};
 ghost use Rattle.rules.specs.Numbers.{splice};
 ghost use Rattle.rules.specs.Template.{template, laid};
@@ -11,7 +13,7 @@ ghost use Rattle.fronts.specs.Fronts.{lead_of, changes_for, Fronting};
 use heads::Changes;
 
 // Where a part's payload starts, its byte order and its ten lengths: a third of what an opening answers.
-#[derive(Drop)]
+#[derive(Clone, Copy)]
 pub struct Lead {
     pub start: usize,
     pub order: u32,

@@ -1,4 +1,6 @@
 // Segments put where they belong: blocks of one segment each, lent back to back in any order, joined by their SEGMENT_INDEX.
+#![tactic(auto)]
+
 mod writes;
 
 ghost use Rattle.std.specs.Prelude.{◌≡◌, true, ◌↔◌, ◌+◌, ◌*◌, ◌≤◌, length};
@@ -10,7 +12,7 @@ ghost use Rattle.joins.specs.Steps.{Counted, total_by};
 use fronts::Lead;
 
 // What a join answers: 0, how many parts there were and the bytes written; or its refusal's number and zeros.
-#[derive(Drop)]
+#[derive(Clone, Copy)]
 pub struct Joined {
     pub refusal: u32,
     pub count: u32,

@@ -1,5 +1,7 @@
 // A level turned into bounds on the sample. Values rise with the samples, or fall with them where the gain is below 0: so the samples whose
 // values reach the level are all those between two numbers.
+#![tactic(auto)]
+
 ghost use Rattle.std.specs.Prelude.{◌≡◌, ◌^◌, ◌<◌, T, ℤ};
 ghost use Rattle.std.specs.Int.Signed.{mag};
 ghost use Rattle.std.specs.Float.Ieee.{le};
@@ -11,7 +13,7 @@ ghost use Rattle.levels.specs.Levels.{between, raised, ranked, Rises, Edge};
 use scale::Calibration;
 
 // The lowest and the highest sample whose value reaches a level. Where none does, the lowest is above the highest.
-#[derive(Drop)]
+#[derive(Clone, Copy)]
 pub struct Bounds {
     pub low: i16,
     pub high: i16,

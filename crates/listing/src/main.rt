@@ -1,4 +1,6 @@
 // The listing program: a block from standard input, its numbers and its points as text on standard output.
+#![tactic(auto)]
+
 mod lines;
 mod pages;
 mod text;
@@ -10,7 +12,7 @@ ghost use Rattle.listing.specs.Outputs.{Next, Printed};
 use libc::{STDERR_FILENO, STDIN_FILENO, STDOUT_FILENO};
 
 // What was read: so many bytes at the buffer's start, and what the last call of read answered.
-#[derive(Drop)]
+#[derive(Clone, Copy)]
 struct Input {
     count: usize,
     last: isize,

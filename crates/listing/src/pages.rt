@@ -15,14 +15,14 @@ const MOST: usize = 65536;
 const LINE_ROOM: usize = 58;
 
 // Where a listing stands: before the point at a place of a segment, or at its end, where the place is refused.
-#[derive(Drop)]
+#[derive(Clone, Copy)]
 pub struct Spot {
     pub segment: u32,
     pub place: Place,
 }
 
 // So many bytes at the start of a buffer, and where the listing stands behind them.
-#[derive(Drop)]
+#[derive(Clone, Copy)]
 pub struct Page {
     pub spot: Spot,
     pub count: usize,

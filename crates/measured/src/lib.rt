@@ -1,5 +1,7 @@
 // Two calls that are there to be counted: the values of a segment as floats and how many samples stand at the rail, by the fill, and by the
 // walk, which leaves and answers the same, bit for bit.
+#![tactic(auto)]
+
 ghost use Rattle.std.specs.Prelude.{◌≡◌, ◌++◌, map, ◌+◌, ◌*◌, ◌≤◌, length, drop};
 ghost use Rattle.rules.specs.Numbers.{up_from};
 ghost use Rattle.rules.specs.Rules.{opened};

@@ -1,4 +1,6 @@
 // Narrows a WORD block to BYTE: the high byte of each sample, and 256 times the gain. A BYTE block is rewritten.
+#![tactic(auto)]
+
 mod bytes;
 mod gains;
 mod words;
@@ -8,7 +10,7 @@ ghost use Rattle.std.specs.Prelude.{◌≡◌, length};
 ghost use Rattle.narrows.specs.Narrows.{refused_as, narrowed_as, out_as};
 
 // What a narrowing answers: 0 and the bytes written; or its refusal's number and 0.
-#[derive(Drop)]
+#[derive(Clone, Copy)]
 pub struct Narrowed {
     pub refusal: u32,
     pub length: u32,

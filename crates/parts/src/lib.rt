@@ -1,4 +1,6 @@
 // Parts lent back to back: each judged where it stands, two compared, and rows of good ones put where their index belongs.
+#![tactic(auto)]
+
 ghost use Rattle.std.specs.Prelude.{◌≡◌, ◌+◌, ◌*◌, ◌≤◌, ◌<◌, length, get_or, drop};
 ghost use Rattle.rules.specs.Numbers.{splice};
 ghost use Rattle.rules.specs.Rules.{same, payload_start};
@@ -7,7 +9,7 @@ ghost use Rattle.joining.specs.Join.{parts_in};
 ghost use Rattle.parts.specs.Parts.{refused_as, part_as, Placeable, rows_of, placed};
 
 // A part: 0, where its payload starts in the slice, where it ends, and its SEGMENT_INDEX; or its number and zeros.
-#[derive(Drop)]
+#[derive(Clone, Copy)]
 pub struct Part {
     pub refusal: u32,
     pub start: usize,

@@ -1,4 +1,6 @@
 // Setups as lines: read as the scope takes them, and written as the one normal line.
+#![tactic(auto)]
+
 mod reads;
 mod writes;
 
@@ -7,14 +9,14 @@ pub use reads::read;
 pub use writes::{length_of, write};
 
 // What a line says: a setup; or that it is none, which is 15.
-#[derive(Drop)]
+#[derive(Clone, Copy)]
 pub enum Reading {
     Taken { setup: Setup },
     Text,
 }
 
 // What the writer answers: 0 and the bytes written; or 15 and 0.
-#[derive(Drop)]
+#[derive(Clone, Copy)]
 pub struct Printed {
     pub refusal: u32,
     pub length: u32,

@@ -12,7 +12,7 @@ use cuts::Setup;
 const MISSING: u64 = 4294967296;
 
 // A pair: which of SP, NP, FP and SN its key is, its value, and where it ends. The key is 4 where there is no pair.
-#[derive(Drop)]
+#[derive(Clone, Copy)]
 struct Found {
     key: usize,
     value: u64,

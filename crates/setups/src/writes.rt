@@ -11,7 +11,7 @@ use crate::Printed;
 use cuts::Setup;
 
 // How many decimal digits each of the four numbers has.
-#[derive(Drop)]
+#[derive(Clone, Copy)]
 struct Widths {
     sp: usize,
     np: usize,

@@ -1,5 +1,7 @@
 // A segment in so many columns, to be drawn: refusals 1 to 8, 20, 9, 10, 11 and 13, then the least and the greatest sample of each column; and of
 // all samples their sum, how many stand at the rail, and the first point that holds the greatest.
+#![tactic(auto)]
+
 mod bytes;
 mod drawing;
 
@@ -16,7 +18,7 @@ pub use bytes::put_columns;
 use tallies::Tally;
 
 // 0, the sum of all samples, how many stand at the rail, and the first point that holds the greatest; or the number of the refusal and zeros.
-#[derive(Drop)]
+#[derive(Clone, Copy)]
 pub struct Drawn {
     pub refusal: u32,
     pub sum: i64,

@@ -5,7 +5,7 @@ ghost use Rattle.fills.specs.Fills.{Holds, sample_at};
 ghost use Rattle.tallies.specs.Tallies.{height, extent_of};
 
 // Of some samples: the least, the greatest, and how far they are above -32,768 together.
-#[derive(Drop)]
+#[derive(Clone, Copy)]
 pub(crate) struct Extent {
     pub least: i16,
     pub greatest: i16,

@@ -1,5 +1,7 @@
 // The samples of a column, and what is kept of all before it: the least and the greatest of the column; and of all samples so far their sum,
 // how many stand at the rail, and from where on the greatest is to be looked for.
+#![tactic(auto)]
+
 mod extents;
 mod marks;
 
@@ -13,7 +15,7 @@ use extents::Extent;
 
 // Of a column the least and the greatest sample; of all samples so far how far they are above -32,768 together, how many stand at the rail,
 // the greatest, and the number of a sample before which none reaches the greatest.
-#[derive(Drop)]
+#[derive(Clone, Copy)]
 pub struct Tally {
     pub least: i16,
     pub greatest: i16,

@@ -1,5 +1,7 @@
 // The calls for a host in C: numbers and byte slices only. Each returns 0 or the number of its refusal, and writes its answer as numbers of
 // eight bytes, the high byte first.
+#![tactic(auto)]
+
 mod combining;
 mod crossed;
 mod drawn;
