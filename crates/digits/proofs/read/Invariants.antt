@@ -1,0 +1,28 @@
+-- Digit by digit: the number of those read so far, until one is none.
+use mathlib.Core.Path.{◌≡◌, refl, sym, ap, ap₂, ◌∙◌}
+use mathlib.Core.Bool.{true, false}
+use mathlib.Core.List.{List}
+use Prim.Native.Nat.{ℕ, suc, ◌+◌, ◌-◌, ◌*◌, ◌^◌, ◌≤◌, ◌<◌}
+use native.Mathlib.Omega.{arith}
+use lib.ListN.{length, get_or, take, drop, length-take, length-drop}
+use lib.Seq.{take_all, get_or-take, get_or-drop}
+use borrow.Author.Tests.{not-true, not-false}
+use Rattle.rules.specs.Numbers.{low}
+use Rattle.rules.specs.Rules.{digit?}
+use Rattle.rules.proofs.Frames.{digit-says}
+use Rattle.rules.proofs.Numbers.{below-take}
+use Rattle.digits.specs.Digits.{value_of, digits_at}
+use Rattle.digits.proofs.Runs.{digit_more, digit_stop, digits-below, digits_few, value_next, value-small}
+use borrow.Author.Rules.{rules}
+use Rattle.digits.proofs.read.Given as goal
+
+-- the bytes that are looked at
+abbrev pub text : List ℕ → ℕ → ℕ → List ℕ
+text s from to = take (to - from) (drop from s)
+
+abbrev pub invariant-loop-at : goal.invariant-loop-at
+invariant-loop-at l =
+    (l.from ≤ l.at) × (l.at ≤ l.to) × (l.at - l.from ≤ length (digits_at (text l.s l.from l.to))) × (l.value ≡ value_of (take (l.at - l.from) (digits_at (text l.s l.from l.to))))
+
+abbrev pub decreases-loop-at : goal.decreases-loop-at
+decreases-loop-at l = l.to - l.at

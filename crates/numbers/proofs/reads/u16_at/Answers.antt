@@ -1,0 +1,18 @@
+-- The 2 bytes joined are the number in either order.
+use borrow.Author.Rules.{rules}
+use native.Mathlib.Omega.{arith}
+use Rattle.rules.specs.Numbers.{low}
+use Rattle.numbers.proofs.Reading.{read-high, read_low}
+use Rattle.numbers.proofs.reads.u16_at.Goals as goal
+
+pub returns-then-order-eq0 : goal.returns-then-order-eq0
+unfolding low
+returns-then-order-eq0 c =
+    let a = c.args in
+    omega (arith, c.join2.ensures, read-high a.s.now a.at 2 a.order (omega arith) c.if-order-eq0.true)
+
+pub returns-else-order-eq0 : goal.returns-else-order-eq0
+unfolding low
+returns-else-order-eq0 c =
+    let a = c.args in
+    omega (arith, c.join2-else-order-eq0.ensures, read_low a.s.now a.at 2 a.order (omega arith) c.if-order-eq0.false)
