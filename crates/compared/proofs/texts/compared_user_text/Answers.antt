@@ -1,0 +1,17 @@
+-- The part that is copied is the user text.
+use mathlib.Core.Path.{ap, ◌∙◌}
+use mathlib.Core.List.{List}
+use Prim.Native.Nat.{ℕ}
+use lib.ListN.{length}
+use Rattle.compared.specs.Tested.{copied}
+use borrow.Author.Rules.{rules}
+use Rattle.compared.proofs.texts.compared_user_text.Goals as goal
+
+pub returns : goal.returns
+returns c =
+    let a = c.args in
+    let t = c.user_text-text.ensures.result_value in
+    record {
+      value = c.copy_part.ensures.value ∙ ap length t;
+      out_after = c.copy_part.ensures.out_after ∙ ap (λ (l : List ℕ). copied l a.out.now) t;
+    }

@@ -1,0 +1,31 @@
+-- A point's value and time are the first two numbers, and its mark the first byte; a walk that is done hands out nothing.
+use mathlib.Core.Path.{sym, ap, ◌∙◌}
+use mathlib.Core.List.{[], map}
+use native.Mathlib.Omega.{arith}
+use lib.ListN.{length}
+use Rattle.rules.specs.Points.{mark_number}
+use Rattle.points.specs.declared.walk.Step.{Step}
+use Rattle.points.specs.Walks.{values_of, marks_of}
+use Rattle.compared.specs.Tested.{copied}
+use Rattle.compared.proofs.Tested.{copied-fits}
+use borrow.Author.Rules.{rules}
+use Rattle.compared.proofs.walks.compared_step.Goals as goal
+
+pub returns-in-Point : goal.returns-in-Point
+returns-in-Point c =
+    let a = c.args in
+    let v = c.value-1.given in
+    let e = sym v.1 ∙ c.walked.ensures in record {
+      value = ap (λ (r : Step). length (values_of r)) e;
+      out_after = c.put_two.ensures ∙ ap (λ (r : Step). copied (values_of r) a.out.now) e;
+      mark_after = c.put_mark.ensures ∙ ap (λ (r : Step). copied (map mark_number (marks_of r)) a.mark.now) e;
+    }
+
+pub returns-in-Done : goal.returns-in-Done
+returns-in-Done c =
+    let a = c.args in
+    let e = sym c.enum_told-1.given.1 ∙ c.walked.ensures in record {
+      value = ap (λ (r : Step). length (values_of r)) e;
+      out_after = copied-fits [] a.out.now (omega arith) ∙ ap (λ (r : Step). copied (values_of r) a.out.now) e;
+      mark_after = copied-fits [] a.mark.now (omega arith) ∙ ap (λ (r : Step). copied (map mark_number (marks_of r)) a.mark.now) e;
+    }

@@ -1,0 +1,122 @@
+-- Each turn writes the value, the time and the mark of the next point; the walk is done after the last.
+use mathlib.Core.Path.{◌≡◌, refl, sym, ap, ◌∙◌}
+use mathlib.Core.List.{map}
+use Prim.Native.Nat.{◌-◌, ◌≤◌, ◌<◌}
+use native.Mathlib.Numerals.{add-one}
+use native.Mathlib.Omega.{arith}
+use lib.ListN.{length, length-set}
+use Rattle.rules.specs.Numbers.{Bytes, up_from}
+use Rattle.rules.specs.Wave.{Wave, points}
+use Rattle.rules.specs.Rules.{opened}
+use Rattle.rules.specs.Points.{value, time, mark, mark_number}
+use Rattle.rules.proofs.Numbers.{below-index}
+use Rattle.rules.proofs.Marks.{mark_le}
+use Rattle.fills.specs.Fills.{over}
+use Rattle.fills.proofs.Writes.{over_none, map-one}
+use Rattle.points.specs.Walks.{after_of, place_after}
+use Rattle.compared.specs.Tested.{mark_byte}
+use Rattle.measured.proofs.Walked.{all-written, points_are, handed, stopped}
+use borrow.Author.Rules.{rules}
+use Rattle.compared.proofs.walks.put_steps.Goals as goal
+use Rattle.compared.proofs.walks.put_steps.Goals.{After-shared_slice_known-1, At-loop-value, In-Point-2, Start}
+
+-- every element of a slice is a byte
+bytes : (c : After-shared_slice_known-1) → Bytes c.args.block.now
+bytes c = below-index 256 c.args.block.now (λ i h. (c.type_inv.block i).fits)
+
+-- a step that hands out a point
+module _ (c : In-Point-2) where
+  abbrev start : Start
+  start = c
+
+  abbrev loop : At-loop-value
+  loop = c
+
+  abbrev wave : Wave
+  wave = opened start.args.block.now
+
+  next : (loop.loop.k < points wave.head)
+      × (c.value-1.given.0.0 ≡ value wave start.args.array start.args.segment loop.loop.k)
+      × (c.value-1.given.0.1.0 ≡ time wave start.args.segment loop.loop.k)
+      × (c.value-1.given.0.1.1.0 ≡ mark wave start.args.array start.args.segment loop.loop.k)
+  next =
+      let a = start.args in
+      let l = loop.loop in
+      let r = c.step_at in
+      let v = c.value-1.given in
+      handed a.block.now a.array a.segment (bytes c) start.pre.1.0 l.k l.inv.0 l.place l.inv.1 r.result r.ensures v.0.0 v.0.1.0 v.0.1.1.0 v.1
+
+  within : (loop.loop.k < length loop.loop.values) × (loop.loop.k < length loop.loop.times) × (loop.loop.k < length loop.loop.marks)
+  within =
+      let a = start.args in
+      let m = points_are a.block.now a.array a.segment a.first start.pre.0 start.pre.1.0 in
+      (omega (arith, next.0, m, start.pre.1.1.0, loop.loop.inv.2), omega (arith, next.0, m, start.pre.1.1.1, loop.loop.inv.3), omega (arith, next.0, m, start.pre.1.1.2, loop.loop.inv.4))
+
+pub loop-value-init : goal.loop-value-init
+unfolding up_from
+loop-value-init c =
+    let a = c.args in
+    (omega arith, c.requires.first_value, refl, refl, refl, over_none a.values.now 0, over_none a.times.now 0, over_none a.marks.now 0)
+
+pub offset_bounds-values-k : goal.offset_bounds-values-k
+offset_bounds-values-k c = omega (arith, (within c).0)
+
+pub bounds-values-k : goal.bounds-values-k
+bounds-values-k c = (within c).0
+
+pub offset_bounds-times-k : goal.offset_bounds-times-k
+offset_bounds-times-k c = omega (arith, (within c).1)
+
+pub bounds-times-k : goal.bounds-times-k
+bounds-times-k c = (within c).1
+
+pub overflow_cast-marks : goal.overflow_cast-marks
+overflow_cast-marks c = omega (arith, c.mark_number.ensures, mark_le c.value-1.given.0.1.1.0)
+
+pub bounds-marks-k : goal.bounds-marks-k
+bounds-marks-k c = (within c).2
+
+pub overflow_add-k : goal.overflow_add-k
+overflow_add-k c = omega (arith, (within c).0)
+
+pub loop-value-smaller : goal.loop-value-smaller
+loop-value-smaller c = omega (arith, (next c).0)
+
+pub loop-value-preserved : goal.loop-value-preserved
+loop-value-preserved c =
+    let l = (loop c).loop in
+    let a = (start c).args in
+    let n = next c in
+    let w = within c in
+    let v = c.value-1.given.0 in (
+      omega (arith, n.0),
+      c.after-place.ensures ∙ ap after_of l.inv.1 ∙ ap (place_after a.block.now a.array a.segment) (sym (add-one l.k)),
+      simp length-set l.inv.2,
+      simp length-set l.inv.3,
+      simp length-set l.inv.4,
+      map-one (value (wave c) a.array a.segment) a.values.now l.values 0 0 l.k l.k l.k v.0 n.1 (omega arith) (omega arith) (omega (arith, w.0, l.inv.2)) l.inv.5,
+      map-one (time (wave c) a.segment) a.times.now l.times 0 0 l.k l.k l.k v.1.0 n.2 (omega arith) (omega arith) (omega (arith, w.1, l.inv.3)) l.inv.6,
+      map-one (mark_byte (wave c) a.array a.segment) a.marks.now l.marks 0 0 l.k l.k l.k _ (c.mark_number.ensures ∙ ap mark_number n.3) (omega arith) (omega arith) (omega (arith, w.2, l.inv.4)) l.inv.7,
+    )
+
+pub shape_of-values : goal.shape_of-values
+shape_of-values c = c.loop-value.invariant.2
+
+pub shape_of-times : goal.shape_of-times
+shape_of-times c = c.loop-value.invariant.3
+
+pub shape_of-marks : goal.shape_of-marks
+shape_of-marks c = c.loop-value.invariant.4
+
+pub returns : goal.returns
+returns c =
+    let l = c.loop-value in
+    let r = c.step_at in
+    let a = c.args in
+    let w : Wave = opened a.block.now in
+    let q = stopped a.block.now a.array a.segment (bytes (goal.at.returns c).After-shared_slice_known-1) c.requires.segment_value l.k l.invariant.0 l.place l.invariant.1 r.result r.ensures c.enum_told-1.given.1 in
+    let e : l.k ≡ a.first.points = omega (arith, q, points_are a.block.now a.array a.segment a.first c.requires.first_value c.requires.segment_value) in record {
+      values_after = all-written (value w a.array a.segment) a.values.now l.values l.k a.first.points e l.invariant.5;
+      times_after = all-written (time w a.segment) a.times.now l.times l.k a.first.points e l.invariant.6;
+      marks_after = all-written (mark_byte w a.array a.segment) a.marks.now l.marks l.k a.first.points e l.invariant.7;
+    }

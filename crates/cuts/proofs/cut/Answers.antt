@@ -1,0 +1,110 @@
+-- Refused with the number of the first rule broken, refused for room, or written by its plan.
+use mathlib.Core.Path.{◌≡◌, refl, sym, ◌∙◌}
+use mathlib.Core.List.{List}
+use Prim.Native.Nat.{ℕ, ◌+◌}
+use native.Mathlib.Omega.{arith}
+use lib.ListN.{length}
+use Rattle.rules.specs.Numbers.{Bytes}
+use Rattle.rules.specs.Rules.{first, refusal, opened}
+use Rattle.rules.specs.Cut.{Setup, or_else, cut_rules, cut_bytes}
+use Rattle.rules.proofs.Numbers.{below-index}
+use Rattle.block.specs.declared.Opened.{Opened}
+use Rattle.block.specs.Opened.{opened_as}
+use Rattle.cuts.specs.Cuts.{setup_as}
+use Rattle.cuts.specs.Plans.{Ready, plan_in}
+use Rattle.cuts.proofs.Asking.{refused_is, accepted_block, allows, short_is, written_is}
+use Rattle.cuts.proofs.Readies.{FrontNeeds, front_needs, plan_needs, count-out, count_small, long-out}
+use borrow.Author.Rules.{rules}
+use Rattle.cuts.proofs.cut.Goals as goal
+use Rattle.cuts.proofs.cut.Goals.{After-asked-number, After-plan_of-plan, Else-number-ne0}
+
+-- what the call was lent and asked, and the block as it was opened
+abbrev lent : After-asked-number → List ℕ
+lent c = c.args.block.now
+
+abbrev wanted : After-asked-number → Setup
+wanted c = setup_as c.args.setup
+
+abbrev order : After-asked-number → ℕ
+order c = c.args.order
+
+abbrev held : After-asked-number → List ℕ
+held c = c.args.out.now
+
+abbrev found : After-asked-number → Opened
+found c = c.«open».result
+
+bytes : (c : After-asked-number) → Bytes (lent c)
+bytes c = below-index 256 (lent c) (λ i h. (c.type_inv.block i).fits)
+
+opens : (c : After-asked-number) → found c ≡ opened_as (lent c)
+opens c = c.«open».ensures
+
+number : (c : After-asked-number) → c.asked-number.result ≡ or_else (refusal (lent c)) (first (cut_rules (order c) (wanted c) (opened (lent c)).head))
+number c = c.asked-number.ensures (lent c) (opens c)
+
+-- the checks have passed
+passed : (c : Else-number-ne0) → let c = c in Ready (lent c) (found c) (wanted c) (order c) (plan_in (found c) (wanted c))
+passed c =
+    let c = c in record {
+      block = accepted_block (lent c) (order c) (wanted c) (held c) c.asked-number.result (number c) c.if-number-ne0.false;
+      says = opens c;
+      allows = allows (lent c) (order c) (wanted c) (held c) c.asked-number.result (number c) c.if-number-ne0.false;
+      plans = refl;
+    }
+
+ready : (c : After-plan_of-plan) → let c = c in Ready (lent c) (found c) (wanted c) (order c) c.plan_of-plan.result
+ready c = let p = passed c in record { block = p.block; says = p.says; allows = p.allows; plans = c.plan_of-plan.ensures }
+
+needed : (c : After-plan_of-plan) → let c = c in FrontNeeds (lent c) (found c) (wanted c) c.plan_of-plan.result
+needed c = let c = c in front_needs (lent c) (bytes c) (found c) (wanted c) (order c) c.plan_of-plan.result (ready c)
+
+long : (c : After-plan_of-plan) → let c = c in length (cut_bytes (order c) (wanted c) (lent c)) ≡ 11 + c.plan_of-plan.result.total
+long c = let c = c in long-out (lent c) (bytes c) (found c) (wanted c) (order c) c.plan_of-plan.result (ready c)
+
+pub returns-then-number-ne0 : goal.returns-then-number-ne0
+returns-then-number-ne0 c =
+    let c = c in
+    let told = refused_is (lent c) (order c) (wanted c) (held c) c.asked-number.result (number (goal.at.returns-then-number-ne0 c).After-asked-number) c.if-number-ne0.true c.refused.result c.refused.ensures in record {
+      value = told.0;
+      out_after = told.1;
+    }
+
+pub plan_of-plan-requires : goal.plan_of-plan-requires
+plan_of-plan-requires c =
+    let c = c in plan_needs (lent c) (bytes (goal.at.plan_of-plan-requires c).After-asked-number) (found c) (wanted c) (order c) (plan_in (found c) (wanted c)) (passed (goal.at.plan_of-plan-requires c).Else-number-ne0)
+
+pub overflow_cast-count : goal.overflow_cast-count
+overflow_cast-count c =
+    let c = c in
+    omega (arith, count_small (lent c) (bytes (goal.at.overflow_cast-count c).After-asked-number) (found c) (wanted c) (order c) c.plan_of-plan.result (ready (goal.at.overflow_cast-count c).After-plan_of-plan))
+
+pub overflow_add-long : goal.overflow_add-long
+overflow_add-long c = omega (arith, (needed (goal.at.overflow_add-long c).After-plan_of-plan).total-small)
+
+pub returns-then-out-long : goal.returns-then-out-long
+returns-then-out-long c =
+    let c = c in
+    let told = short_is (lent c) (order c) (wanted c) (held c) c.asked-number.result (number (goal.at.returns-then-out-long c).After-asked-number) c.if-number-ne0.false (omega (arith, c.if-out-long.true, long (goal.at.returns-then-out-long c).After-plan_of-plan)) c.refused-then-out-long.result c.refused-then-out-long.ensures in record {
+      value = told.0;
+      out_after = told.1;
+    }
+
+pub write_cut-requires : goal.write_cut-requires
+write_cut-requires c = record {
+      ready = ready (goal.at.write_cut-requires c).After-plan_of-plan;
+      total_in_bounds = omega (arith, c.if-out-long.false);
+    }
+
+pub overflow_cast-result : goal.overflow_cast-result
+overflow_cast-result c = omega (arith, (needed (goal.at.overflow_cast-result c).After-plan_of-plan).total-small)
+
+pub returns : goal.returns
+returns c =
+    let c = c in
+    let w = written_is (lent c) (order c) (wanted c) (held c) c.asked-number.result (number (goal.at.returns c).After-asked-number) c.if-number-ne0.false (omega (arith, c.if-out-long.false, long (goal.at.returns c).After-plan_of-plan)) in
+    let counted = count-out (lent c) (bytes (goal.at.returns c).After-asked-number) (found c) (wanted c) (order c) c.plan_of-plan.result (ready (goal.at.returns c).After-plan_of-plan) in
+    record {
+      value = (λ i. record { refusal = 0; count = counted i; length = sym (long (goal.at.returns c).After-plan_of-plan) i }) ∙ w.0;
+      out_after = c.write_cut.ensures ∙ w.1;
+    }

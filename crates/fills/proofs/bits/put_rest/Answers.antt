@@ -1,0 +1,91 @@
+-- Each turn writes the bits of the next value, and counts the mark of its sample.
+use mathlib.Core.Path.{◌≡◌, refl, ap, ◌∙◌}
+use mathlib.Core.List.{List, flatten}
+use Prim.Native.Nat.{ℕ, ◌+◌, ◌*◌, ◌-◌, ◌≤◌}
+use native.Mathlib.Omega.{arith}
+use lib.IntN.{ℤ}
+use lib.ListN.{length}
+use lib.Dec.{lit≤}
+use mir.Syntax.{w16, w32}
+use mir.ValLaws.{to_z-of_z}
+use borrow.Author.Rules.{rules}
+use Rattle.rules.specs.Numbers.{up_from}
+use Rattle.rules.specs.Points.{value_of, mark_count_of}
+use Rattle.rules.proofs.Numbers.{length-bytes}
+use Rattle.scale.proofs.Samples.{cast_fits, cast_same, small}
+use Rattle.fills.specs.Fills.{sample_at, bits_of, value_at, bits_from, mark_count_from, over}
+use Rattle.rules.proofs.Marks.{marks_few}
+use Rattle.fills.proofs.Marking.{marks-one}
+use Rattle.fills.proofs.Sampling.{fewer, counted}
+use Rattle.fills.proofs.Writes.{over_none, run-one}
+use Rattle.fills.proofs.bits.put_rest.Goals as goal
+use Rattle.fills.proofs.bits.put_rest.Goals.{After-count_mark-marks}
+
+pub loop-i-init : goal.loop-i-init
+unfolding up_from flatten mark_count_of
+loop-i-init c =
+    let a = c.args in
+    let e : a.done - a.done ≡ 0 = omega arith in
+    (search rules, search rules, refl, rw e (over_none a.out.now (a.done * 8)), rw e refl)
+
+pub sample-z-requires : goal.sample-z-requires
+sample-z-requires c = fewer c.requires.holds _ (omega arith)
+
+pub overflow_cast-z : goal.overflow_cast-z
+overflow_cast-z c = cast_fits w16 w32 c.sample-z.result (record { sfits = c.sample-z.type-inv }) (lit≤ tt)
+
+pub put_value-requires : goal.put_value-requires
+put_value-requires c = let r = c.sample-z in record {
+      finite_value = search rules;
+      sample_bound = small w16 r.result (record { sfits = r.type-inv }) (lit≤ tt);
+      at_in_bounds = omega arith;
+    }
+
+pub count_mark-marks-requires : goal.count_mark-marks-requires
+count_mark-marks-requires c = c.requires.1.0.narrow
+
+-- the mark of one sample more
+one : (c : After-count_mark-marks)
+    → (let at_loop = c in
+    let a = at_loop.args in
+    let l = at_loop.loop in
+    l.marks + c.count_mark-marks.result ≡ mark_count_from a.order a.size a.block.now a.from a.done (l.i - a.done + 1))
+one c =
+    let a = c.args in
+    let l = c.loop-i in
+    let r = c.sample-z in
+    marks-one a.size (sample_at a.order a.size a.block.now a.from) a.done (l.i - a.done) l.i l.marks c.count_mark-marks.result _ (omega (arith, l.invariant.0)) l.invariant.4 (to_z-of_z w16 r.result (record { sfits = r.type-inv }) ∙ r.ensures) c.count_mark-marks.ensures
+
+pub overflow_add-marks : goal.overflow_add-marks
+overflow_add-marks c =
+    let a = c.args in
+    omega (arith, one (goal.at.overflow_add-marks c).After-count_mark-marks, marks_few a.size (sample_at a.order a.size a.block.now a.from) a.done (c.loop-i.i - a.done + 1), counted c.requires.holds, c.well-formed)
+
+pub loop-i-preserved : goal.loop-i-preserved
+unfolding value_at
+loop-i-preserved c =
+    let l = c.loop-i in
+    let a = c.args in
+    let r = c.sample-z in
+    let put = c.put_value in
+    let f : ℕ → List ℕ = λ k. bits_of (value_at a.c.gain a.c.offset a.order a.size a.block.now a.from k) in
+    let e : l.i - a.done + 1 ≡ l.i + 1 - a.done = omega arith in (
+      omega arith,
+      omega arith,
+      put.auto.1.1.0 ∙ l.invariant.2,
+      put.ensures
+          ∙ rw e at (run-one f 8 (λ k. length-bytes 0 8 _) a.out.now l.out (a.done * 8) a.done (l.i - a.done) l.i (l.i * 8) _
+          (ap (λ (z : ℤ). bits_of (value_of a.c.gain a.c.offset z)) (cast_same w16 w32 r.result (record { sfits = r.type-inv }) (lit≤ tt) ∙ r.ensures)) (omega arith) (omega arith) (omega arith) l.invariant.3),
+      rw e at (one (goal.at.loop-i-preserved c).After-count_mark-marks),
+    )
+
+pub shape_of-out : goal.shape_of-out
+shape_of-out c = c.loop-i.invariant.2
+
+pub returns : goal.returns
+returns c =
+    let e : c.loop-i.i ≡ c.args.count = omega arith in
+    record {
+      out_after = rw e at c.loop-i.invariant.3;
+      value = rw e at c.loop-i.invariant.4;
+    }

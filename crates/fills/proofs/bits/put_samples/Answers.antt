@@ -1,0 +1,26 @@
+-- The widened numbers are the samples.
+use mathlib.Core.Path.{ap, ◌∙◌}
+use mathlib.Core.List.{List, map, flatten}
+use native.Mathlib.Omega.{arith}
+use lib.IntN.{ℤ}
+use lib.ListN.{length}
+use borrow.Author.Rules.{rules}
+use Rattle.rules.specs.Points.{value_of}
+use Rattle.fills.specs.Fills.{bits_of, over}
+use Rattle.fills.proofs.bits.put_samples.Goals as goal
+
+pub put_wide-requires : goal.put_wide-requires
+put_wide-requires c =
+    let w = c.widen in
+    record {
+      finite_value = search rules;
+      wide_len = ap length w.ensures.0 ∙ c.requires.samples_len;
+      by_index = w.ensures.1;
+      at_in_bounds = omega arith;
+    }
+
+pub returns : goal.returns
+returns c =
+    let w = c.widen in
+    let a = c.args in
+    c.put_wide.ensures ∙ ap (λ (xs : List ℤ). over a.out.now a.at (flatten (map (λ z. bits_of (value_of a.c.gain a.c.offset z)) xs))) w.ensures.0

@@ -1,0 +1,120 @@
+-- Each turn writes the value of the next point and counts its mark; the walk is done after the last.
+use mathlib.Core.Path.{◌≡◌, refl, sym, ap, ◌∙◌}
+use mathlib.Core.List.{map}
+use Prim.Native.Nat.{ℕ, ◌+◌, ◌-◌, ◌≤◌, ◌<◌}
+use native.Mathlib.Numerals.{add-one}
+use native.Mathlib.Omega.{arith}
+use lib.Ieee.{Float}
+use lib.ListN.{length, length-set}
+use Rattle.rules.specs.Numbers.{Bytes, up_from}
+use Rattle.rules.specs.Wave.{Wave, size_of, points}
+use Rattle.rules.specs.Rules.{opened}
+use Rattle.rules.specs.Points.{sample, value, mark, mark_number, mark_count_of, mark_count}
+use Rattle.rules.proofs.Numbers.{below-index}
+use Rattle.fills.specs.Fills.{over}
+use Rattle.rules.proofs.Marks.{marks_few}
+use Rattle.fills.proofs.Marking.{marks-one}
+use Rattle.fills.proofs.Writes.{over_none, map-one}
+use Rattle.points.specs.Walks.{after_of, place_after}
+use Rattle.measured.proofs.Walked.{all-written, points_are, handed, stopped}
+use borrow.Author.Rules.{rules}
+use Rattle.measured.proofs.put_points.Goals as goal
+use Rattle.measured.proofs.put_points.Goals.{After-mark_number, After-shared_slice_known-1, At-loop-value, In-Point-2, Start}
+
+-- every element of a slice is a byte
+bytes : (c : After-shared_slice_known-1) → Bytes c.args.block.now
+bytes c = below-index 256 c.args.block.now (λ i h. (c.type_inv.block i).fits)
+
+-- the slice is at least as long as there are points
+room : (c : Start) → points (opened c.args.block.now).head ≤ length c.args.out.now
+room c = let a = c.args in omega (arith, points_are a.block.now a.array a.segment a.first c.requires.first_value c.requires.segment_value, c.requires.points_in_bounds)
+
+-- a step that hands out a point
+module _ (c : In-Point-2) where
+  abbrev start : Start
+  start = c
+
+  abbrev loop : At-loop-value
+  loop = c
+
+  next : (loop.loop.k < points (opened start.args.block.now).head)
+      × (c.value-1.given.0.0 ≡ value (opened start.args.block.now) start.args.array start.args.segment loop.loop.k)
+      × (c.value-1.given.0.1.1.0 ≡ mark (opened start.args.block.now) start.args.array start.args.segment loop.loop.k)
+  next =
+      let a = start.args in
+      let l = loop.loop in
+      let r = c.step_at in
+      let v = c.value-1.given in
+      let h = handed a.block.now a.array a.segment (bytes c) start.pre.1.0 l.k l.inv.0 l.place l.inv.1 r.result r.ensures v.0.0 v.0.1.0 v.0.1.1.0 v.1 in
+      (h.0, h.1, h.3)
+
+  within : loop.loop.k < length loop.loop.out
+  within = omega (arith, next.0, room start, loop.loop.inv.2)
+
+pub loop-value-init : goal.loop-value-init
+unfolding up_from mark_count_of
+loop-value-init c = let a = c.args in (omega arith, c.requires.first_value, refl, over_none a.out.now 0, refl)
+
+pub offset_bounds-out-k : goal.offset_bounds-out-k
+offset_bounds-out-k c = omega (arith, within c)
+
+pub bounds-out-k : goal.bounds-out-k
+bounds-out-k c = within c
+
+-- the mark of one point more
+one : (c : After-mark_number)
+    → (let h = c in
+    let a = (start h).args in
+    let w : Wave = opened a.block.now in
+    (loop h).loop.marks + c.mark_number.result ≡ mark_count_of (size_of w.head) (map (sample w a.array a.segment) (up_from 0 ((loop h).loop.k + 1))))
+unfolding c
+one c =
+    let a = (start c).args in
+    let l = (loop c).loop in
+    let w : Wave = opened a.block.now in
+    marks-one (size_of w.head) (sample w a.array a.segment) 0 l.k l.k l.marks c.mark_number.result (sample w a.array a.segment l.k) (omega arith) l.inv.4 refl
+    (c.mark_number.ensures ∙ ap mark_number (next c).2)
+
+pub overflow_add-marks : goal.overflow_add-marks
+overflow_add-marks c =
+    let a = (start c).args in
+    let w : Wave = opened a.block.now in
+    let few = marks_few (size_of w.head) (sample w a.array a.segment) 0 ((loop c).loop.k + 1) in
+    omega (arith, one (goal.at.overflow_add-marks c).After-mark_number, few, (next c).0, points_are a.block.now a.array a.segment a.first (start c).requires.0 (start c).requires.1.0, (start c).well-formed)
+
+pub overflow_add-k : goal.overflow_add-k
+overflow_add-k c = omega (arith, within c)
+
+pub loop-value-smaller : goal.loop-value-smaller
+loop-value-smaller c = omega (arith, (next c).0)
+
+pub loop-value-preserved : goal.loop-value-preserved
+loop-value-preserved c =
+    let l = (loop c).loop in
+    let a = (start c).args in
+    let f : ℕ → Float = value (opened a.block.now) a.array a.segment in
+    let n = next c in (
+      omega (arith, n.0),
+      c.after-place.ensures ∙ ap after_of l.inv.1 ∙ ap (place_after a.block.now a.array a.segment) (sym (add-one l.k)),
+      simp length-set l.inv.2,
+      map-one f a.out.now l.out 0 0 l.k l.k l.k c.value-1.given.0.0 n.1 (omega arith) (omega arith) (omega (arith, within c, l.inv.2)) l.inv.3,
+      one (goal.at.loop-value-preserved c).After-mark_number,
+    )
+
+pub shape_of-out : goal.shape_of-out
+shape_of-out c = c.loop-value.invariant.2
+
+pub returns : goal.returns
+unfolding mark_count
+returns c =
+    let l = c.loop-value in
+    let r = c.step_at in
+    let a = c.args in
+    let w : Wave = opened a.block.now in
+    let f : ℕ → Float = value w a.array a.segment in
+    let q = stopped a.block.now a.array a.segment (bytes (goal.at.returns c).After-shared_slice_known-1) c.requires.segment_value l.k l.invariant.0 l.place l.invariant.1 r.result r.ensures c.enum_told-1.given.1 in
+    let e : l.k ≡ a.first.points = omega (arith, q, points_are a.block.now a.array a.segment a.first c.requires.first_value c.requires.segment_value) in
+    record {
+      out_after = all-written f a.out.now l.out l.k a.first.points e l.invariant.3;
+      value = l.invariant.4 ∙ ap (λ (k : ℕ). mark_count_of (size_of w.head) (map (sample w a.array a.segment) (up_from 0 k))) q;
+    }

@@ -1,0 +1,15 @@
+-- Each turn doubles once more, and adds at most one to the exponent's field (`grown-most`).
+use mathlib.Core.Path.{◌≡◌, refl, sym, ap, ◌∙◌}
+use Prim.Native.Nat.{ℕ, ◌-◌, ◌≤◌}
+use native.Mathlib.Numerals.{add-one}
+use native.Mathlib.Omega.{arith}
+use borrow.Author.Rules.{rules}
+use Rattle.narrows.specs.Steps.{doubled, grown}
+use Rattle.narrows.proofs.Doubles.{grown-most}
+use Rattle.narrows.proofs.gains.grow.Given as goal
+
+abbrev pub invariant-loop-k : goal.invariant-loop-k
+invariant-loop-k l = (l.k ≤ 8) × (l.p ≡ grown l.k l.pattern)
+
+abbrev pub decreases-loop-k : goal.decreases-loop-k
+decreases-loop-k l = 8 - l.k

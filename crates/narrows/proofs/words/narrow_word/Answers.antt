@@ -1,0 +1,111 @@
+-- Refused for its gain or for room, or written.
+use mathlib.Core.Path.{◌≡◌, ap, ◌∙◌}
+use mathlib.Core.Bool.{true}
+use mathlib.Core.Logic.{inr}
+use mathlib.Core.List.{List}
+use Prim.Native.Nat.{ℕ, ◌/◌}
+use native.Mathlib.Omega.{arith}
+use lib.Ieee.Scale.{finite}
+use lib.ListN.{length, get_or}
+use Rattle.rules.specs.Numbers.{splice}
+use Rattle.rules.specs.Rules.{finite32, opened}
+use Rattle.rules.proofs.Numbers.{below-index}
+use Rattle.block.proofs.Ladder.{passes, fails}
+use Rattle.narrowing.specs.Narrow.{widened, times256, gain}
+use Rattle.narrowing.proofs.Accepted.{says-narrow}
+use Rattle.narrows.specs.Steps.{word_block}
+use Rattle.narrows.proofs.Answers.{WordNeeds, word_needs, gain-number, room-number, refuses, narrows}
+use borrow.Author.Rules.{rules}
+use Rattle.narrows.proofs.words.narrow_word.Goals as goal
+use Rattle.narrows.proofs.words.narrow_word.Goals.{After-bits-gain, After-is_narrow, After-shared_slice_known-1}
+
+needed : (c : After-shared_slice_known-1) → WordNeeds c.args.block.now c.args.o (get_or c.args.o.layout.starts 6 0) (get_or c.args.o.layout.lengths 6 0 / 2) (get_or c.args.o.layout.lengths 7 0 / 2)
+needed c = word_needs c.args.block.now (below-index 256 c.args.block.now (λ i h. (c.type_inv.block i).fits)) c.args.o c.requires.0 c.requires.1 c.requires.2
+
+-- the gain of the block, by its bits
+abbrev old : After-shared_slice_known-1 → ℕ
+old c = gain (opened c.args.block.now).head
+
+bits_are : (c : After-bits-gain) → c.bits-gain.result ≡ old c
+bits_are c = c.bits-gain.ensures ∙ (needed c).bits
+
+gain-good : (c : After-bits-gain) → finite32 c.bits-gain.result ≡ true
+gain-good c = ap finite32 (bits_are c) ∙ (needed c).good
+
+-- what the bits are tested for
+test : (c : After-is_narrow) → c.is_narrow.result ≡ finite (widened (old c))
+test c = c.is_narrow.ensures ∙ ap (λ (n : ℕ). finite (widened n)) (bits_are c)
+
+finite-bits : (c : After-is_narrow) → finite (widened (old c)) ≡ true → finite (widened c.bits-gain.result) ≡ true
+finite-bits c e = ap (λ (n : ℕ). finite (widened n)) (bits_are c) ∙ e
+
+pub bits-gain-requires : goal.bits-gain-requires
+bits-gain-requires c = (needed (goal.at.bits-gain-requires c).After-shared_slice_known-1).real
+
+pub is_narrow-requires : goal.is_narrow-requires
+is_narrow-requires c = gain-good (goal.at.is_narrow-requires c).After-bits-gain
+
+pub returns-then-not-is_narrow : goal.returns-then-not-is_narrow
+returns-then-not-is_narrow c =
+    let s = c.args.block.now in
+    let out = c.args.out.now in
+    let told = refuses s out 19 (gain-number s (length out) c.requires.1 c.requires.2 (fails (test (goal.at.returns-then-not-is_narrow c).After-is_narrow) c.if-not-is_narrow.true-raw)) (λ z. omega (arith, z)) c.refused.result c.refused.ensures in record {
+      value = told.0;
+      out_after = told.1;
+    }
+
+pub overflow_cast-one : goal.overflow_cast-one
+overflow_cast-one c = omega (arith, (needed (goal.at.overflow_cast-one c).After-shared_slice_known-1).small)
+
+pub overflow_cast-two : goal.overflow_cast-two
+overflow_cast-two c = omega (arith, (needed (goal.at.overflow_cast-two c).After-shared_slice_known-1).small)
+
+pub overflow_add-total : goal.overflow_add-total
+overflow_add-total c = omega (arith, (needed (goal.at.overflow_add-total c).After-shared_slice_known-1).small)
+
+pub overflow_add-total-2 : goal.overflow_add-total-2
+overflow_add-total-2 c = omega (arith, (needed (goal.at.overflow_add-total-2 c).After-shared_slice_known-1).small)
+
+pub overflow_add-total-3 : goal.overflow_add-total-3
+overflow_add-total-3 c = omega (arith, (needed (goal.at.overflow_add-total-3 c).After-shared_slice_known-1).small)
+
+pub returns-then-out-total : goal.returns-then-out-total
+returns-then-out-total c =
+    let s = c.args.block.now in
+    let out = c.args.out.now in
+    let told = refuses s out 13 (room-number s (length out) c.requires.1 (inr (passes (test (goal.at.returns-then-out-total c).After-is_narrow) c.if-not-is_narrow.false-raw)) (omega (arith, c.if-out-total.true, (needed (goal.at.returns-then-out-total c).After-shared_slice_known-1).long))) (λ z. omega (arith, z)) c.refused-then-out-total.result c.refused-then-out-total.ensures in record {
+      value = told.0;
+      out_after = told.1;
+    }
+
+pub times_256-gain-requires : goal.times_256-gain-requires
+times_256-gain-requires c =
+    record {
+      gain_value = gain-good (goal.at.times_256-gain-requires c).After-bits-gain;
+      gain_value_2 = finite-bits (goal.at.times_256-gain-requires c).After-is_narrow (passes (test (goal.at.times_256-gain-requires c).After-is_narrow) c.if-not-is_narrow.false-raw);
+    }
+
+pub write_word-requires : goal.write_word-requires
+write_word-requires c =
+    let n = needed (goal.at.write_word-requires c).After-shared_slice_known-1 in
+    record {
+      order_bound = (n.order, n.least, n.small);
+      two_in_bounds = n.room;
+      two_in_bounds_2 = omega (arith, c.if-out-total.false);
+    }
+
+pub overflow_cast-result : goal.overflow_cast-result
+overflow_cast-result c = omega (arith, (needed (goal.at.overflow_cast-result c).After-shared_slice_known-1).small)
+
+pub returns : goal.returns
+returns c =
+    let n = needed (goal.at.returns c).After-shared_slice_known-1 in
+    let o = c.args.o in
+    let s = c.args.block.now in
+    let out = c.args.out.now in
+    let block : ℕ → List ℕ = word_block s o.start o.order (get_or o.layout.starts 6 0) (get_or o.layout.lengths 6 0 / 2) (get_or o.layout.lengths 7 0 / 2) in
+    let told = narrows s out (says-narrow s (length out) (record { block = c.requires.1; gains = inr (passes (test (goal.at.returns c).After-is_narrow) c.if-not-is_narrow.false-raw); room = omega (arith, c.if-out-total.false, n.long) })) _ n.long _
+    (c.write_word.ensures ∙ ap (λ (g : ℕ). splice out 0 (block g)) (c.times_256-gain.ensures ∙ ap times256 (bits_are (goal.at.returns c).After-bits-gain)) ∙ ap (splice out 0) n.is) in record {
+      value = told.0;
+      out_after = told.1;
+    }

@@ -1,0 +1,8 @@
+-- Both tests.
+use mathlib.Core.Path.{ap₂}
+use mathlib.Core.Bool.{Bool, ◌&&◌}
+use borrow.Author.Rules.{rules}
+use Rattle.scale.proofs.is_finite_value.Goals as goal
+
+pub returns : goal.returns
+returns c = ap₂ {C = Bool} (λ x y. x && y) c.is_finite_single.ensures c.is_finite_single-2.ensures

@@ -1,0 +1,54 @@
+-- `scale::time` meets its contract.
+use mathlib.Core.Path.{◌≡◌, sym, subst}
+use Prim.Native.Nat.{ℕ}
+use native.Mathlib.Omega.{arith}
+use lib.Ieee.{Float}
+use borrow.Author.Rules.{rules}
+use Rattle.rules.specs.Points.{time_by, exact_time, Near}
+use Rattle.scale.specs.declared.TimeRule.{TimeRule}
+use Rattle.scale.specs.Scale.{rule_as, FiniteRule}
+use Rattle.scale.proofs.time.Goals as goal
+
+-- what is to be shown of the time r at the place i by a rule
+abbrev Timed : ℕ → Float → TimeRule → Type 0
+Timed i r rule = (r ≡ time_by (rule_as rule) i) × Near 1074 (exact_time (rule_as rule) i) r
+
+pub along-requires : goal.along-requires
+along-requires c = record {
+      finite_pair = subst FiniteRule c.rule-1.given.1 c.requires.finite_rule;
+      i_bound = omega arith;
+    }
+
+pub after-requires : goal.after-requires
+after-requires c = record {
+      finite_pair = subst FiniteRule c.rule-in-Ris-1.given.1 c.requires.finite_rule;
+      i_bound = omega arith;
+    }
+
+pub along-requires-in-Horizontal : goal.along-requires-in-Horizontal
+along-requires-in-Horizontal c = record {
+      finite_pair = subst FiniteRule c.rule-in-Horizontal-1.given.1 c.requires.finite_rule;
+      i_bound = omega arith;
+    }
+
+pub returns-in-Segment : goal.returns-in-Segment
+returns-in-Segment c =
+    let told = subst (Timed c.args.i c.along.result) (sym c.rule-1.given.1) (c.along.ensures.value, c.along.ensures.near) in record {
+      value = told.0;
+      near = told.1;
+    }
+
+pub returns-in-Ris : goal.returns-in-Ris
+returns-in-Ris c =
+    let told = subst (Timed c.args.i c.after.result) (sym c.rule-in-Ris-1.given.1) (c.after.ensures.value, c.after.ensures.near) in record {
+      value = told.0;
+      near = told.1;
+    }
+
+pub returns-in-Horizontal : goal.returns-in-Horizontal
+unfolding time_by
+returns-in-Horizontal c =
+    let told = subst (Timed c.args.i c.along-in-Horizontal.result) (sym c.rule-in-Horizontal-1.given.1) (c.along-in-Horizontal.ensures.value, c.along-in-Horizontal.ensures.near) in record {
+      value = told.0;
+      near = told.1;
+    }

@@ -1,0 +1,69 @@
+-- Each return is one outcome of the pair that stands there.
+use mathlib.Core.Path.{◌≡◌, sym, ap, ◌∙◌}
+use mathlib.Core.List.{List}
+use Prim.Native.Nat.{ℕ, ◌+◌, ◌-◌, min}
+use native.Mathlib.Omega.{arith}
+use lib.ListN.{length, take, drop, length-drop}
+use borrow.Author.Tests.{not-true, not-false}
+use Rattle.digits.specs.Digits.{digits_at, run_of}
+use Rattle.lines.specs.Reader.{value?}
+use Rattle.setups.proofs.Steps.{too_short, no_key, no_comma, no_value, pair_found, tested, tested_is, run_found, run-behind}
+use borrow.Author.Rules.{rules}
+use Rattle.setups.proofs.reads.pair_at.Goals as goal
+use Rattle.setups.proofs.reads.pair_at.Goals.{After-read-run}
+
+pub returns-then-line-at-lt3 : goal.returns-then-line-at-lt3
+returns-then-line-at-lt3 c = let a = c.args in too_short a.line.now a.at (omega (arith, c.if-line-at-lt3.true, c.requires))
+
+pub returns-then-key-eq4 : goal.returns-then-key-eq4
+returns-then-key-eq4 c = let a = c.args in no_key a.line.now a.at (sym c.key_at-key.ensures ∙ c.if-key-eq4.true)
+
+pub returns-then-line-at-ne44 : goal.returns-then-line-at-ne44
+returns-then-line-at-ne44 c = let a = c.args in no_comma a.line.now a.at c.if-line-at-ne44.true
+
+pub overflow_add-from-2 : goal.overflow_add-from-2
+overflow_add-from-2 c = omega (arith, c.at_most_11.ensures)
+
+pub read-run-requires : goal.read-run-requires
+read-run-requires c =
+    let e = c.at_most_11.ensures in
+    (omega arith, omega (arith, e), omega (arith, e, c.requires, c.if-line-at-lt3.false))
+
+-- where a value stands: behind the comma
+abbrev from : After-read-run → ℕ
+from c = c.args.at + 3
+
+abbrev value : After-read-run → List ℕ
+value c = drop (from c) c.args.line.now
+
+abbrev room : After-read-run → ℕ
+room c = length c.args.line.now - from c
+
+room_is : (c : After-read-run) → room c ≡ length (value c)
+room_is c = sym (length-drop (from c) c.args.line.now)
+
+-- and what was read of it
+run_is : (c : After-read-run) → c.read-run.result ≡ run_of (from c) (take (from c + min 11 (room c) - from c) (value c))
+run_is c = c.read-run.ensures ∙ ap (λ (n : ℕ). run_of (from c) (take (from c + n - from c) (value c))) c.at_most_11.ensures
+
+pub overflow_sub-count : goal.overflow_sub-count
+overflow_sub-count c = let r : tie.After-read = c in run-behind (from r) (value r) (room r) (room_is r) r.read.result (run_is r)
+
+-- whether it is a value
+test_is : (c : After-read-run) → tested (from c) c.read-run.result ≡ value? (digits_at (value c))
+test_is c = tested_is (from c) (value c) (room c) (room_is c) c.read-run.result (run_is c)
+
+pub returns-then-not-count-run : goal.returns-then-not-count-run
+returns-then-not-count-run c =
+    let r : tie.After-read = c in
+    let a = r.args in
+    no_value a.line.now a.at (sym (test_is r) ∙ not-true _ c.if-not-count-run.true-raw)
+
+pub returns : goal.returns
+returns c =
+    let r : tie.After-read = c in
+    let k = r in
+    let a = k.args in
+    let w = run_found (from r) (value r) (room r) (room_is r) r.read.result (run_is r) (not-false _ c.if-not-count-run.false-raw) in
+    (λ i. record { key = k.key-at.ensures i; value = (w i).value; next = (w i).end })
+    ∙ pair_found a.line.now a.at (λ z. r.if2.false (k.key-at.ensures ∙ z)) r.if3.false (sym (test_is r) ∙ not-false _ c.if-not-count-run.false-raw)

@@ -1,0 +1,66 @@
+-- Refused by 12, without room, or answered: by the case of the answer of `combined`.
+use mathlib.Core.Path.{◌≡◌, sym, ap, ◌∙◌}
+use mathlib.Core.List.{List}
+use Prim.Native.Nat.{ℕ}
+use native.Mathlib.Omega.{arith}
+use Rattle.rules.specs.Numbers.{all_bytes, splice}
+use Rattle.rules.specs.Cut.{Setup, combined, combined_refusal}
+use Rattle.cuts.specs.Cuts.{number_of, setup_in}
+use Rattle.cuts.proofs.Combining.{combined-number, combined-setup}
+use Rattle.tessarquin.specs.Calls.{setup, setup_numbers, combined_bytes, combined_number, combined_left}
+use Rattle.tessarquin.proofs.Slices.{combined-length, own_refused, own_short, own_left}
+use borrow.Author.Rules.{rules}
+use Rattle.tessarquin.proofs.combining.tessarquin_combined.Goals as goal
+use Rattle.tessarquin.proofs.combining.tessarquin_combined.Goals.{After-combined, In-One-2}
+
+-- the two setups that the call was asked for, and its count
+abbrev first : After-combined → Setup
+first p = let a = p.args in setup a.spa a.npa a.fpa a.sna
+
+abbrev second : After-combined → Setup
+second p = let a = p.args in setup a.spb a.npb a.fpb a.snb
+
+abbrev counted : After-combined → ℕ
+counted p = p.args.count
+
+number : (c : After-combined) → number_of c.combined.result ≡ combined_refusal (first c) (second c)
+number c = combined-number (first c) (second c) (counted c) c.combined.result c.combined.ensures
+
+-- there is a setup: it is the combined one
+taken : (c : In-One-2) → combined_refusal (first c) (second c) ≡ 0
+taken c = sym (number c) ∙ ap number_of c.setup-1.given.1
+
+pub returns-then-answer-lt32 : goal.returns-then-answer-lt32
+unfolding combined_number combined_left
+returns-then-answer-lt32 c =
+    let x : tie.After-setup = c in
+    let p : tie.After-combined = x in
+    let told = own_short (combined_refusal (first p) (second p)) (combined_bytes (first p) (second p) (counted p)) p.args.answer.now (taken x)
+    (omega (arith, c.if-answer-lt32.true, combined-length (first p) (second p) (counted p))) in record {
+      value = told.0;
+      answer_after = told.1;
+    }
+
+pub returns-in-Sparse : goal.returns-in-Sparse
+unfolding combined_number combined_left
+returns-in-Sparse c =
+    let p : tie.After-combined = c in
+    let told = own_refused (combined_refusal (first p) (second p)) (combined_bytes (first p) (second p) (counted p)) p.args.answer.now 12
+    (ap number_of (sym c.enum_told-1.given.1) ∙ number p) (λ e. omega (arith, e)) in record {
+      value = told.0;
+      answer_after = told.1;
+    }
+
+pub returns-else-answer-lt32 : goal.returns-else-answer-lt32
+unfolding combined_number combined_left
+returns-else-answer-lt32 c =
+    let e : tie.Else1 = c in
+    let x : tie.After-setup = e in
+    let p : tie.After-combined = x in
+    let answer : List ℕ = p.args.answer.now in
+    let same : setup_in p.combined.result ≡ combined (first p) (second p) (counted p) = combined-setup (first p) (second p) (counted p) p.combined.result p.combined.ensures (taken x) in
+    let r = own_left (combined_refusal (first p) (second p)) (combined_bytes (first p) (second p) (counted p)) answer (taken x)
+    (omega (arith, e.if1.false, combined-length (first p) (second p) (counted p))) in record {
+      value = r.0;
+      answer_after = c.put_setup.ensures ∙ ap (λ (o : Setup). splice answer 0 (all_bytes 0 8 (setup_numbers o))) (ap setup_in (sym x.setup.given.1) ∙ same) ∙ r.1;
+    }

@@ -1,0 +1,18 @@
+-- Each turn writes one number more (`number_next`).
+use mathlib.Core.Path.{◌≡◌, refl, ap, ◌∙◌}
+use mathlib.Core.List.{List, flatten}
+use Prim.Native.Nat.{ℕ, ◌+◌, ◌*◌, ◌-◌, ◌≤◌}
+use native.Mathlib.Omega.{arith}
+use lib.ListN.{length, take, get_or}
+use lib.Seq.{take_all}
+use Rattle.rules.specs.Numbers.{bytes, all_bytes, splice}
+use Rattle.rules.proofs.Splices.{splice_none}
+use Rattle.tessarquin.proofs.Writing.{number_next}
+use borrow.Author.Rules.{rules}
+use Rattle.tessarquin.proofs.parts.put_ten.Given as goal
+
+abbrev pub invariant-loop-i : goal.invariant-loop-i
+invariant-loop-i l = (l.i ≤ 10) × (length l.out ≡ length l.initial.out) × (l.out ≡ splice l.initial.out l.at (all_bytes 0 8 (take l.i l.ten)))
+
+abbrev pub decreases-loop-i : goal.decreases-loop-i
+decreases-loop-i l = 10 - l.i

@@ -1,0 +1,6 @@
+-- The five numbers, as they are written.
+use borrow.Author.Rules.{rules}
+use Rattle.tessarquin.proofs.put_opened.Goals as goal
+
+pub returns : goal.returns
+returns c = c.put_five.ensures

@@ -1,0 +1,60 @@
+-- Refused by 15, without room, or answered: by the case of the answer of `read`.
+use mathlib.Core.Path.{◌≡◌, sym, ap, ◌∙◌}
+use mathlib.Core.List.{List}
+use Prim.Native.Nat.{ℕ}
+use native.Mathlib.Omega.{arith}
+use Rattle.rules.specs.Numbers.{all_bytes, splice}
+use Rattle.rules.specs.Cut.{Setup}
+use Rattle.lines.specs.Reader.{read_setup, read_refusal, or_zeros}
+use Rattle.setups.specs.Setups.{number_of, setup_in}
+use Rattle.setups.proofs.Calls.{read_number, read-setup}
+use Rattle.tessarquin.specs.Calls.{setup_numbers, setup_read_bytes, setup_read_number, setup_read_left}
+use Rattle.tessarquin.proofs.Slices.{own_refused, own_short, own_left}
+use Rattle.tessarquin.proofs.Typing.{read_length}
+use borrow.Author.Rules.{rules}
+use Rattle.tessarquin.proofs.typed.tessarquin_setup_read.Goals as goal
+use Rattle.tessarquin.proofs.typed.tessarquin_setup_read.Goals.{After-read, In-Taken-2}
+
+-- the line that was lent
+abbrev line : After-read → List ℕ
+line p = p.args.line.now
+
+number : (c : After-read) → number_of c.read.result ≡ read_refusal (line c)
+number c = read_number (line c) c.read.result c.read.ensures
+
+-- there is a setup: it is the line's
+taken : (c : In-Taken-2) → read_refusal (line c) ≡ 0
+taken c = sym (number c) ∙ ap number_of c.setup-1.given.1
+
+pub returns-then-answer-lt32 : goal.returns-then-answer-lt32
+unfolding setup_read_number setup_read_left
+returns-then-answer-lt32 c =
+    let x : tie.After-setup = c in
+    let p : tie.After-read = x in
+    let told = own_short (read_refusal (line p)) (setup_read_bytes (line p)) p.args.answer.now (taken x) (omega (arith, c.if-answer-lt32.true, read_length (line p))) in record {
+      value = told.0;
+      answer_after = told.1;
+    }
+
+pub returns-in-Text : goal.returns-in-Text
+unfolding setup_read_number setup_read_left
+returns-in-Text c =
+    let p : tie.After-read = c in
+    let told = own_refused (read_refusal (line p)) (setup_read_bytes (line p)) p.args.answer.now 15
+    (ap number_of (sym c.enum_told-1.given.1) ∙ number p) (λ e. omega (arith, e)) in record {
+      value = told.0;
+      answer_after = told.1;
+    }
+
+pub returns-else-answer-lt32 : goal.returns-else-answer-lt32
+unfolding setup_read_number setup_read_left
+returns-else-answer-lt32 c =
+    let e : tie.Else1 = c in
+    let x : tie.After-setup = e in
+    let p : tie.After-read = x in
+    let answer : List ℕ = p.args.answer.now in
+    let same : setup_in p.read.result ≡ or_zeros (read_setup (line p)) = read-setup (line p) p.read.result p.read.ensures in
+    let r = own_left (read_refusal (line p)) (setup_read_bytes (line p)) answer (taken x) (omega (arith, e.if1.false, read_length (line p))) in record {
+      value = r.0;
+      answer_after = c.put_setup.ensures ∙ ap (λ (o : Setup). splice answer 0 (all_bytes 0 8 (setup_numbers o))) (ap setup_in (sym x.setup.given.1) ∙ same) ∙ r.1;
+    }

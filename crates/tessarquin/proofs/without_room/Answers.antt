@@ -1,0 +1,14 @@
+-- The number of the cut, whose output has no bytes.
+use Rattle.cuts.specs.Cuts.{setup_as}
+use Rattle.cuts.proofs.Calls as calls
+use borrow.Author.Rules.{rules}
+use Rattle.tessarquin.proofs.without_room.Reads as reads
+use Rattle.tessarquin.proofs.without_room.Lts as lts
+use Rattle.cuts.proofs.cut.Reads as cut-reads
+use Rattle.tessarquin.proofs.without_room.Goals as goal
+
+pub returns : goal.returns
+returns c =
+    let a = c.args in
+    let w = c.cut-w in
+    calls.number a.block.now (setup_as a.setup) a.order _ w.result _ (record { answers = w.ensures.0; leaves = w.ensures.1 })
