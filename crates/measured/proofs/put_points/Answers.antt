@@ -80,7 +80,7 @@ overflow_add-marks c =
     let a = (start c).args in
     let w : Wave = opened a.block.now in
     let few = marks_few (size_of w.head) (sample w a.array a.segment) 0 ((loop c).loop.k + 1) in
-    omega (arith, one (goal.at.overflow_add-marks c).After-mark_number, few, (next c).0, points_are a.block.now a.array a.segment a.first (start c).requires.0 (start c).requires.1.0, (start c).well-formed)
+    omega (arith, one (goal.at.overflow_add-marks c).After-mark_number, few, (next c).0, points_are a.block.now a.array a.segment a.first (start c).requires.0 (start c).requires.1.0, (start c).well_formed)
 
 pub overflow_add-k : goal.overflow_add-k
 overflow_add-k c = omega (arith, within c)

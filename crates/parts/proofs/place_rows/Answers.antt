@@ -75,7 +75,7 @@ loop-here-preserved c =
       subst (λ (x : List ℕ). Left a.parts.now a.order a.long a.from a.size a.skip a.count a.out.now a.at x (c.payload_at-start.result + a.long))
           (sym (wrote.ensures ∙ ap (λ (k : ℕ). placed a.at a.size a.skip a.count k (part a.parts.now (c.payload_at-start.result + a.from) a.size) l.out) (index_is (goal.at.loop-here-preserved c).After-u32_at-index)))
           (left_step a.parts.now a.order a.long a.from a.size a.skip a.count a.out.now a.at l.out l.here l.invariant.0 c.loop-here-test.true c.requires.0.wide c.payload_at-start.result c.payload_at-start.ensures c.requires.size_bound c.requires.size_in_bounds),
-      wrote.auto.1.1.1.1.1.1.0 ∙ l.invariant.1,
+      wrote.auto.out ∙ l.invariant.1,
     )
 
 pub shape_of-out : goal.shape_of-out

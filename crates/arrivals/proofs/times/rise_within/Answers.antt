@@ -18,7 +18,7 @@ place_rows-requires c =
 pub ascend-requires : goal.ascend-requires
 ascend-requires c =
     let a = c.args in
-    λ j h. (omega (arith, c.place_rows.auto.1.1.1.1.1.1.1.0, c.requires.count_in_bounds.1), window_finite a.order a.long a.trig a.skip a.count a.parts.now c.requires.timed c.requires.count_in_bounds.0 _ c.place_rows.ensures j h)
+    λ j h. (omega (arith, c.place_rows.auto.out, c.requires.count_in_bounds.1), window_finite a.order a.long a.trig a.skip a.count a.parts.now c.requires.timed c.requires.count_in_bounds.0 _ c.place_rows.ensures j h)
 
 pub returns : goal.returns
 returns c =

@@ -21,7 +21,7 @@ put_rest-rest-requires c =
       finite_value = search rules;
       holds = search rules;
       done_le_count = omega (arith, b.ensures.0);
-      count_in_bounds = omega (arith, b.auto.1.1.1.1.1.1.0);
+      count_in_bounds = omega (arith, b.auto.out);
     }
 
 -- the marks of the blocks and of the rest
@@ -41,7 +41,7 @@ marked c =
 pub overflow_add-result : goal.overflow_add-result
 overflow_add-result c =
     let a = c.args in
-    omega (arith, marked (goal.at.overflow_add-result c).After-struct_known-1, marks_few a.size (sample_at a.order a.size a.block.now a.from) 0 a.count, counted c.requires.holds, c.well-formed)
+    omega (arith, marked (goal.at.overflow_add-result c).After-struct_known-1, marks_few a.size (sample_at a.order a.size a.block.now a.from) 0 a.count, counted c.requires.holds, c.well_formed)
 
 pub returns : goal.returns
 unfolding bits_at mark_count_at

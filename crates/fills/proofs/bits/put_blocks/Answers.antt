@@ -62,7 +62,7 @@ sixty_four c =
 pub overflow_add-marks : goal.overflow_add-marks
 overflow_add-marks c =
     let a = c.args in
-    omega (arith, sixty_four (goal.at.overflow_add-marks c).After-count_marks-marks, marks_few a.size (sample_at a.order a.size a.block.now a.from) 0 (c.loop-i.i + 64), counted c.requires.holds, c.well-formed)
+    omega (arith, sixty_four (goal.at.overflow_add-marks c).After-count_marks-marks, marks_few a.size (sample_at a.order a.size a.block.now a.from) 0 (c.loop-i.i + 64), counted c.requires.holds, c.well_formed)
 
 pub loop-i-preserved : goal.loop-i-preserved
 unfolding value_at
@@ -75,7 +75,7 @@ loop-i-preserved c =
     let g : ℤ → List ℕ = λ z. bits_of (value_of a.c.gain a.c.offset z) in (
       omega arith,
       ap length r.ensures ∙ length_map_up f _ 64,
-      put.auto.1.1.0 ∙ l.invariant.2,
+      put.auto.out ∙ l.invariant.2,
       put.ensures
           ∙ ap (λ (t : List (List ℕ)). over l.out (l.i * 8) (flatten t)) (ap (map g) r.ensures ∙ map-map g f (up_from l.i 64))
           ∙ run_more (λ k. g (f k)) 8 (λ k. length-bytes 0 8 _) a.out.now l.out 0 0 l.i 64 l.i (l.i * 8) (omega arith) (omega arith) (omega arith) l.invariant.3,

@@ -59,7 +59,7 @@ one c =
 pub overflow_add-marks : goal.overflow_add-marks
 overflow_add-marks c =
     let a = c.args in
-    omega (arith, one (goal.at.overflow_add-marks c).After-count_mark-marks, marks_few a.size (sample_at a.order a.size a.block.now a.from) a.done (c.loop-i.i - a.done + 1), counted c.requires.holds, c.well-formed)
+    omega (arith, one (goal.at.overflow_add-marks c).After-count_mark-marks, marks_few a.size (sample_at a.order a.size a.block.now a.from) a.done (c.loop-i.i - a.done + 1), counted c.requires.holds, c.well_formed)
 
 pub loop-i-preserved : goal.loop-i-preserved
 unfolding value_at
@@ -72,7 +72,7 @@ loop-i-preserved c =
     let e : l.i - a.done + 1 ≡ l.i + 1 - a.done = omega arith in (
       omega arith,
       omega arith,
-      put.auto.1.1.0 ∙ l.invariant.2,
+      put.auto.out ∙ l.invariant.2,
       put.ensures
           ∙ rw e at (run-one f 8 (λ k. length-bytes 0 8 _) a.out.now l.out (a.done * 8) a.done (l.i - a.done) l.i (l.i * 8) _
           (ap (λ (z : ℤ). bits_of (value_of a.c.gain a.c.offset z)) (cast_same w16 w32 r.result (record { sfits = r.type-inv }) (lit≤ tt) ∙ r.ensures)) (omega arith) (omega arith) (omega arith) l.invariant.3),

@@ -36,7 +36,7 @@ put_value-requires-in-loop-k c =
     record {
       finite_value = search rules;
       sample_bound = passed_small (get_or c.args.wide.now (k * 2 + 1) (pos 0)) (c.requires.by_index (k * 2 + 1) (omega arith));
-      at_in_bounds = omega (arith, put.auto.1.1.0);
+      at_in_bounds = omega (arith, put.auto.out);
     }
 
 pub loop-k-preserved : goal.loop-k-preserved
@@ -54,7 +54,7 @@ loop-k-preserved c =
     let e : j + 1 + 1 ≡ (l.k + 1) * 2 = omega arith in
     let one = put.ensures ∙ run-one f 8 each a.out.now l.out a.at 0 j j (a.at + j * 8) _ (same j (omega (arith, turn))) (omega arith) refl (omega arith) l.invariant.2 in (
       omega arith,
-      put2.auto.1.1.0 ∙ put.auto.1.1.0 ∙ l.invariant.1,
+      put2.auto.out ∙ put.auto.out ∙ l.invariant.1,
       put2.ensures ∙ rw e at (run-one f 8 each a.out.now _ a.at 0 (j + 1) (j + 1) (a.at + (j + 1) * 8) _ (same (j + 1) (omega (arith, turn))) (omega arith) refl (omega arith) one),
     )
 

@@ -62,7 +62,7 @@ sixty_four c =
 pub overflow_add-marks : goal.overflow_add-marks
 overflow_add-marks c =
     let a = c.args in
-    omega (arith, sixty_four (goal.at.overflow_add-marks c).After-count_marks-marks, marks_few a.size (sample_at a.order a.size a.block.now a.from) 0 (c.loop-i.i + 64), counted c.requires.holds, c.well-formed)
+    omega (arith, sixty_four (goal.at.overflow_add-marks c).After-count_marks-marks, marks_few a.size (sample_at a.order a.size a.block.now a.from) 0 (c.loop-i.i + 64), counted c.requires.holds, c.well_formed)
 
 pub loop-i-preserved : goal.loop-i-preserved
 unfolding value_at
@@ -75,7 +75,7 @@ loop-i-preserved c =
     let v : ℕ → Float = value_at a.c.gain a.c.offset a.order a.size a.block.now a.from in (
       omega arith,
       ap length r.ensures ∙ length_map_up f _ 64,
-      s.auto.1.1.0 ∙ l.invariant.2,
+      s.auto.out ∙ l.invariant.2,
       s.ensures
           ∙ ap (over l.out l.i) (ap (map (value_of a.c.gain a.c.offset)) r.ensures ∙ map-map (value_of a.c.gain a.c.offset) f (up_from l.i 64))
           ∙ map_more v a.out.now l.out 0 0 l.i 64 l.i l.i (omega arith) (omega arith) (omega arith) l.invariant.3,

@@ -45,7 +45,7 @@ pub overflow_add-marks : goal.overflow_add-marks
 overflow_add-marks c =
     let l = c.loop-i in
     let a = c.args in
-    omega (arith, one (goal.at.overflow_add-marks c).After-count_mark-marks, marks_few a.size (sample_at a.order a.size a.block.now a.from) a.done (l.i - a.done + 1), counted c.requires.holds, c.well-formed)
+    omega (arith, one (goal.at.overflow_add-marks c).After-count_mark-marks, marks_few a.size (sample_at a.order a.size a.block.now a.from) a.done (l.i - a.done + 1), counted c.requires.holds, c.well_formed)
 
 pub loop-i-preserved : goal.loop-i-preserved
 unfolding value_at

@@ -84,7 +84,7 @@ loop-k-preserved c =
       ap (λ (m : ℕ). m + get_or a.lead.lengths (3 + l.k) 0) l.invariant.1 ∙ next_start a.parts.now (bytes (goal.at.loop-k-preserved c).After-shared_slice_known-1) a.lead a.count a.end c.requires.gathered l.k (omega (arith, c.loop-k-test.true)),
       omega (arith, l.invariant.2, n.0),
       w.ensures ∙ ap (splice l.out l.to) rows ∙ ap₂ {C = List ℕ} (λ u m. splice u m (table_of (3 + l.k) a.parts.now)) l.invariant.3 l.invariant.2 ∙ n.1 a.out.now a.at (omega (arith, room (goal.at.loop-k-preserved c).In-loop-k, l.invariant.2)),
-      w.auto.1.1.1.1.1.1.0 ∙ l.invariant.4,
+      w.auto.out ∙ l.invariant.4,
     )
 
 pub shape_of-out : goal.shape_of-out

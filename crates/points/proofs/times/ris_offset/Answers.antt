@@ -32,7 +32,7 @@ returns-then-not-fits c =
     sym (ap (λ (t : Bool). cond t (cond (finite64 n) (of_bits binary64 n) infinite) infinite) (fails c.fits2.ensures c.if-not-fits.true-raw))
 
 pub overflow_add-at : goal.overflow_add-at
-overflow_add-at c = omega (arith, inside (goal.at.overflow_add-at c).Else-not-fits, c.well-formed.0)
+overflow_add-at c = omega (arith, inside (goal.at.overflow_add-at c).Else-not-fits, c.well_formed.0)
 
 pub finite_double_at-requires : goal.finite_double_at-requires
 finite_double_at-requires c = omega (arith, inside (goal.at.finite_double_at-requires c).Else-not-fits)

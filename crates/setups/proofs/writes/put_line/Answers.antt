@@ -51,21 +51,21 @@ pub put_pair-np-requires : goal.put_pair-np-requires
 put_pair-np-requires c =
     record {
       width_value = is_np (goal.at.put_pair-np-requires c).After-slice_known-1;
-      width_in_bounds = omega (arith, c.requires.widths_in_bounds, first-end (goal.at.put_pair-np-requires c).After-put_pair-sp, c.put_pair-sp.auto.1.1.1.0);
+      width_in_bounds = omega (arith, c.requires.widths_in_bounds, first-end (goal.at.put_pair-np-requires c).After-put_pair-sp, c.put_pair-sp.auto.out);
     }
 
 pub put_pair-fp-requires : goal.put_pair-fp-requires
 put_pair-fp-requires c =
     record {
       width_value = is_fp (goal.at.put_pair-fp-requires c).After-slice_known-1;
-      width_in_bounds = omega (arith, c.requires.widths_in_bounds, second-end (goal.at.put_pair-fp-requires c).After-put_pair-np, c.put_pair-sp.auto.1.1.1.0, c.put_pair-np.auto.1.1.1.0);
+      width_in_bounds = omega (arith, c.requires.widths_in_bounds, second-end (goal.at.put_pair-fp-requires c).After-put_pair-np, c.put_pair-sp.auto.out, c.put_pair-np.auto.out);
     }
 
 pub put_pair-requires : goal.put_pair-requires
 put_pair-requires c =
     record {
       width_value = is_sn (goal.at.put_pair-requires c).After-slice_known-1;
-      width_in_bounds = omega (arith, c.requires.widths_in_bounds, third_end (goal.at.put_pair-requires c).After-put_pair-fp, c.put_pair-sp.auto.1.1.1.0, c.put_pair-np.auto.1.1.1.0, c.put_pair-fp.auto.1.1.1.0);
+      width_in_bounds = omega (arith, c.requires.widths_in_bounds, third_end (goal.at.put_pair-requires c).After-put_pair-fp, c.put_pair-sp.auto.out, c.put_pair-np.auto.out, c.put_pair-fp.auto.out);
     }
 
 pub returns : goal.returns

@@ -91,8 +91,8 @@ loop-q-preserved c =
       omega (arith, h),
       c.boundary-b.ensures,
       c.column-t.ensures.seen_2,
-      c.put_signed.auto.1.0 ∙ l.invariant.3,
-      c.put_signed-in-loop-q.auto.1.0 ∙ l.invariant.4,
+      c.put_signed.auto.out ∙ l.invariant.3,
+      c.put_signed-in-loop-q.auto.out ∙ l.invariant.4,
       low,
       high,
     )

@@ -20,7 +20,7 @@ loop-i-preserved c =
     let a = c.args in
     let i = c.loop-i.i in (
       search rules,
-      c.put_u64.auto.1.1.0 ∙ c.loop-i.invariant.1,
+      c.put_u64.auto.out ∙ c.loop-i.invariant.1,
       c.put_u64.ensures
           ∙ ap {B = List ℕ} (λ u. splice u (a.at + i * 8) (bytes 0 8 (get_or a.t1 i 0))) c.loop-i.invariant.2
           ∙ number_next a.out.now a.at a.t1 i (omega arith) (omega (arith, c.requires)),
