@@ -32,13 +32,13 @@ abbrev held : After-asked-number → List ℕ
 held c = c.args.out.now
 
 abbrev found : After-asked-number → Opened
-found c = c.«open».result
+found c = c.open-o.result
 
 bytes : (c : After-asked-number) → Bytes (lent c)
 bytes c = below-index 256 (lent c) (λ i h. (c.type_inv.block i).fits)
 
 opens : (c : After-asked-number) → found c ≡ opened_as (lent c)
-opens c = c.«open».ensures
+opens c = c.open-o.ensures
 
 number : (c : After-asked-number) → c.asked-number.result ≡ or_else (refusal (lent c)) (first (cut_rules (order c) (wanted c) (opened (lent c)).head))
 number c = c.asked-number.ensures (lent c) (opens c)
@@ -47,20 +47,20 @@ number c = c.asked-number.ensures (lent c) (opens c)
 passed : (c : Else-number-ne0) → let c = c in Ready (lent c) (found c) (wanted c) (order c) (plan_in (found c) (wanted c))
 passed c =
     let c = c in record {
-      block = accepted_block (lent c) (order c) (wanted c) (held c) c.asked-number.result (number c) c.if-number-ne0.false;
-      says = opens c;
-      allows = allows (lent c) (order c) (wanted c) (held c) c.asked-number.result (number c) c.if-number-ne0.false;
+      block = accepted_block (lent c) (order c) (wanted c) (held c) c.asked-number.result (number (goal.at.Else-number-ne0 c).After-asked-number) c.if-number-ne0.false;
+      says = opens (goal.at.Else-number-ne0 c).After-asked-number;
+      allows = allows (lent c) (order c) (wanted c) (held c) c.asked-number.result (number (goal.at.Else-number-ne0 c).After-asked-number) c.if-number-ne0.false;
       plans = refl;
     }
 
 ready : (c : After-plan_of-plan) → let c = c in Ready (lent c) (found c) (wanted c) (order c) c.plan_of-plan.result
-ready c = let p = passed c in record { block = p.block; says = p.says; allows = p.allows; plans = c.plan_of-plan.ensures }
+ready c = let p = passed (goal.at.After-plan_of-plan c).Else-number-ne0 in record { block = p.block; says = p.says; allows = p.allows; plans = c.plan_of-plan.ensures }
 
 needed : (c : After-plan_of-plan) → let c = c in FrontNeeds (lent c) (found c) (wanted c) c.plan_of-plan.result
-needed c = let c = c in front_needs (lent c) (bytes c) (found c) (wanted c) (order c) c.plan_of-plan.result (ready c)
+needed c = let c = c in front_needs (lent c) (bytes (goal.at.After-plan_of-plan c).After-asked-number) (found c) (wanted c) (order c) c.plan_of-plan.result (ready c)
 
 long : (c : After-plan_of-plan) → let c = c in length (cut_bytes (order c) (wanted c) (lent c)) ≡ 11 + c.plan_of-plan.result.total
-long c = let c = c in long-out (lent c) (bytes c) (found c) (wanted c) (order c) c.plan_of-plan.result (ready c)
+long c = let c = c in long-out (lent c) (bytes (goal.at.After-plan_of-plan c).After-asked-number) (found c) (wanted c) (order c) c.plan_of-plan.result (ready c)
 
 pub returns-then-number-ne0 : goal.returns-then-number-ne0
 returns-then-number-ne0 c =

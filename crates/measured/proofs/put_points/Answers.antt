@@ -45,7 +45,7 @@ module _ (c : In-Point-2) where
       let l = loop.loop in
       let r = c.step_at in
       let v = c.value-1.given in
-      let h = handed a.block.now a.array a.segment (bytes c) start.pre.1.0 l.k l.inv.0 l.place l.inv.1 r.result r.ensures v.0.0 v.0.1.0 v.0.1.1.0 v.1 in
+      let h = handed a.block.now a.array a.segment (bytes c) start.pre.1.0 l.k l.inv.0 l.place l.inv.1 r.result c.step_at.ensures v.0.0 v.0.1.0 v.0.1.1.0 v.1 in
       (h.0, h.1, h.3)
 
   within : loop.loop.k < length loop.loop.out
@@ -63,10 +63,9 @@ bounds-out-k c = within c
 
 -- the mark of one point more
 one : (c : After-mark_number)
-    → (let h = c in
-    let a = (start h).args in
+    → (let a = (start c).args in
     let w : Wave = opened a.block.now in
-    (loop h).loop.marks + c.mark_number.result ≡ mark_count_of (size_of w.head) (map (sample w a.array a.segment) (up_from 0 ((loop h).loop.k + 1))))
+    (loop c).loop.marks + c.mark_number.result ≡ mark_count_of (size_of w.head) (map (sample w a.array a.segment) (up_from 0 ((loop c).loop.k + 1))))
 unfolding c
 one c =
     let a = (start c).args in
@@ -112,7 +111,7 @@ returns c =
     let a = c.args in
     let w : Wave = opened a.block.now in
     let f : ℕ → Float = value w a.array a.segment in
-    let q = stopped a.block.now a.array a.segment (bytes (goal.at.returns c).After-shared_slice_known-1) c.requires.segment_value l.k l.invariant.0 l.place l.invariant.1 r.result r.ensures c.enum_told-1.given.1 in
+    let q = stopped a.block.now a.array a.segment (bytes (goal.at.returns c).After-shared_slice_known-1) c.requires.segment_value l.k l.invariant.0 l.place l.invariant.1 r.result c.step_at.ensures c.enum_told-1.given.1 in
     let e : l.k ≡ a.first.points = omega (arith, q, points_are a.block.now a.array a.segment a.first c.requires.first_value c.requires.segment_value) in
     record {
       out_after = all-written f a.out.now l.out l.k a.first.points e l.invariant.3;

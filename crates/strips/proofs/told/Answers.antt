@@ -45,7 +45,7 @@ sum : (c : After-struct_known-1) → (let a = c.args in (strip a.size (samples c
 unfolding c
 sum c =
     let a = c.args in
-    sym (sum_is (samples c) (words c) a.count c.requires.le_count.1 a.t.heights c.requires.1.1.heights_are)
+    sym (sum_is (samples c) (words (goal.at.After-struct_known-1 c).After-shared_slice_known-1) a.count c.requires.le_count.1 a.t.heights c.requires.1.1.heights_are)
 
 pub overflow_sub-result : goal.overflow_sub-result
 unfolding strip

@@ -31,8 +31,7 @@ pub at_rail-requires : goal.at_rail-requires
 at_rail-requires c = c.requires.0.narrow
 
 -- the sample is that of the point, so its extent and its mark are
-sampled : (c : After-one) → (let s = c in
-    let a = s.args in
+sampled : (c : After-one) → (let a = c.args in
     let f = sample_at a.order a.size a.block.now a.from in
     let k = c.loop-k.k in
     (c.one.result ≡ extent_of (run f k (k + 1))) × (c.mark_number-mark.result ≡ mark_count_of a.size (run f k (k + 1))))
@@ -42,7 +41,7 @@ sampled c =
     let f : ℕ → ℤ = sample_at a.order a.size a.block.now a.from in
     let k = c.loop-k.k in
     let r = c.sample-z in
-    let z : to_z w16 (of_z w16 r.result) ≡ f k = to_z-of_z w16 r.result (record { sfits = r.type-inv }) ∙ r.ensures in (
+    let z : to_z w16 (of_z w16 r.result) ≡ f k = to_z-of_z w16 r.result (record { sfits = r.type_inv }) ∙ c.sample-z.ensures in (
       c.one.ensures ∙ ap (λ (x : ℤ). extent_of (x ∷ [])) z ∙ ap extent_of (sym (run-one f k)),
       c.mark_number-mark.ensures ∙ ap mark_number (c.at_rail.ensures ∙ ap (at_rail a.size) z) ∙ sym (add-zero (mark_number (at_rail a.size (f k)))) ∙ ap (c a.size) (sym (run-one f k)),
     )

@@ -44,7 +44,7 @@ module _ (c : In-Point-2) where
       let l = loop.loop in
       let r = c.step_at in
       let v = c.value-1.given in
-      handed a.block.now a.array a.segment (bytes c) start.pre.1.0 l.k l.inv.0 l.place l.inv.1 r.result r.ensures v.0.0 v.0.1.0 v.0.1.1.0 v.1
+      handed a.block.now a.array a.segment (bytes c) start.pre.1.0 l.k l.inv.0 l.place l.inv.1 r.result c.step_at.ensures v.0.0 v.0.1.0 v.0.1.1.0 v.1
 
   within : (loop.loop.k < length loop.loop.values) × (loop.loop.k < length loop.loop.times) × (loop.loop.k < length loop.loop.marks)
   within =
@@ -114,7 +114,7 @@ returns c =
     let r = c.step_at in
     let a = c.args in
     let w : Wave = opened a.block.now in
-    let q = stopped a.block.now a.array a.segment (bytes (goal.at.returns c).After-shared_slice_known-1) c.requires.segment_value l.k l.invariant.0 l.place l.invariant.1 r.result r.ensures c.enum_told-1.given.1 in
+    let q = stopped a.block.now a.array a.segment (bytes (goal.at.returns c).After-shared_slice_known-1) c.requires.segment_value l.k l.invariant.0 l.place l.invariant.1 r.result c.step_at.ensures c.enum_told-1.given.1 in
     let e : l.k ≡ a.first.points = omega (arith, q, points_are a.block.now a.array a.segment a.first c.requires.first_value c.requires.segment_value) in record {
       values_after = all-written (value w a.array a.segment) a.values.now l.values l.k a.first.points e l.invariant.5;
       times_after = all-written (time w a.segment) a.times.now l.times l.k a.first.points e l.invariant.6;

@@ -27,10 +27,10 @@ all_small : (c : After-struct_known-2-1) → c.one_if-rows.result * (c.kept_coun
 all_small c = omega (arith, mul-le-mul (rows-small c) (array-small c))
 
 trig-small : (c : After-only_if-trig) → c.only_if-trig.result ≤ 68719476720
-trig-small c = omega (arith, c.only_if-trig.ensures, only_le (get_or c.args.o.layout.lengths 3 0) (c.one_if-rows.result * 16), rows-small c)
+trig-small c = omega (arith, c.only_if-trig.ensures, only_le (get_or c.args.o.layout.lengths 3 0) (c.one_if-rows.result * 16), rows-small (goal.at.After-only_if-trig c).After-struct_known-2-1)
 
 two-small : (c : After-only_if-two) → c.only_if-two.result ≤ 144115188042301440
-two-small c = omega (arith, c.only_if-two.ensures, only_le (get_or c.args.o.layout.lengths 7 0) (c.one_if-rows.result * (c.kept_count-count.result * (c.args.o.kind + 1))), all_small c)
+two-small c = omega (arith, c.only_if-two.ensures, only_le (get_or c.args.o.layout.lengths 7 0) (c.one_if-rows.result * (c.kept_count-count.result * (c.args.o.kind + 1))), all_small (goal.at.After-only_if-two c).After-struct_known-2-1)
 
 pub overflow_mul-one : goal.overflow_mul-one
 overflow_mul-one c = omega (arith, array-small (goal.at.overflow_mul-one c).After-struct_known-2-1)

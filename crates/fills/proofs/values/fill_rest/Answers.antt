@@ -39,7 +39,7 @@ one c =
     let a = c.args in
     let l = c.loop-i in
     let r = c.sample-z in
-    marks-one a.size (sample_at a.order a.size a.block.now a.from) a.done (l.i - a.done) l.i l.marks c.count_mark-marks.result _ (omega (arith, l.invariant.0)) l.invariant.4 (to_z-of_z w16 r.result (record { sfits = r.type-inv }) ∙ r.ensures) c.count_mark-marks.ensures
+    marks-one a.size (sample_at a.order a.size a.block.now a.from) a.done (l.i - a.done) l.i l.marks c.count_mark-marks.result _ (omega (arith, l.invariant.0)) l.invariant.4 (to_z-of_z w16 r.result (record { sfits = r.type_inv }) ∙ c.sample-z.ensures) c.count_mark-marks.ensures
 
 pub overflow_add-marks : goal.overflow_add-marks
 overflow_add-marks c =
@@ -55,7 +55,7 @@ loop-i-preserved c =
     let r = c.sample-z in
     let u = c.value in
     let f : ℕ → Float = value_at a.c.gain a.c.offset a.order a.size a.block.now a.from in
-    let v : u.result ≡ f l.i = u.ensures.0 ∙ ap (value_of a.c.gain a.c.offset) (to_z-of_z w16 r.result (record { sfits = r.type-inv }) ∙ r.ensures) in
+    let v : u.result ≡ f l.i = c.value.ensures.value ∙ ap (value_of a.c.gain a.c.offset) (to_z-of_z w16 r.result (record { sfits = r.type_inv }) ∙ c.sample-z.ensures) in
     let e : l.i - a.done + 1 ≡ l.i + 1 - a.done = omega arith in (
       omega arith,
       omega arith,

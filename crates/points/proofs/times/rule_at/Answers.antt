@@ -11,7 +11,7 @@ returns-in-Segment c = let a = c.args in ap (λ (r : SegmentRule). rule_at a.blo
 pub returns-in-Ris : goal.returns-in-Ris
 returns-in-Ris c =
     let a = c.args in
-    c.ris_rule_lem.ensures ∙ ap (λ (r : SegmentRule). rule_at a.block.now a.order r a.i) (sym c.rule-in-Ris-1.given.1)
+    c.ris_rule.ensures ∙ ap (λ (r : SegmentRule). rule_at a.block.now a.order r a.i) (sym c.rule-in-Ris-1.given.1)
 
 pub returns-in-Horizontal : goal.returns-in-Horizontal
 returns-in-Horizontal c = let a = c.args in ap (λ (r : SegmentRule). rule_at a.block.now a.order r a.i) (sym c.rule-in-Horizontal-1.given.1)

@@ -61,7 +61,7 @@ returns-then-next-line c =
 
 -- something stands behind it
 more : (c : Else-next-line) → c.pair_at-pair.result.next < length (line c)
-more c = lt_of_le-ne (within c).1 c.if-next-line.false
+more c = lt_of_le-ne (within (goal.at.Else-next-line c).Else-key-eq4).1 c.if-next-line.false
 
 pub bounds-line-next : goal.bounds-line-next
 bounds-line-next c = more (goal.at.bounds-line-next c).Else-next-line

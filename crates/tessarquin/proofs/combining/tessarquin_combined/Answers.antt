@@ -28,7 +28,7 @@ number c = combined-number (first c) (second c) (counted c) c.combined.result c.
 
 -- there is a setup: it is the combined one
 taken : (c : In-One-2) → combined_refusal (first c) (second c) ≡ 0
-taken c = sym (number c) ∙ ap number_of c.setup-1.given.1
+taken c = sym (number (goal.at.In-One-2 c).After-combined) ∙ ap number_of c.setup-1.given.1
 
 pub returns-then-answer-lt32 : goal.returns-then-answer-lt32
 unfolding combined_number combined_left

@@ -24,7 +24,7 @@ number c = read_number (line c) c.read.result c.read.ensures
 
 -- there is a setup: it is the line's
 taken : (c : In-Taken-2) → read_refusal (line c) ≡ 0
-taken c = sym (number c) ∙ ap number_of c.setup-1.given.1
+taken c = sym (number (goal.at.In-Taken-2 c).After-read) ∙ ap number_of c.setup-1.given.1
 
 pub returns-then-answer-lt32 : goal.returns-then-answer-lt32
 unfolding setup_read_number setup_read_left
