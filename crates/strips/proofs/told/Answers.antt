@@ -19,7 +19,7 @@ abbrev samples : Start → ℕ → ℤ
 samples s = let a = s.args in sample_at a.order a.size a.block.now a.from
 
 words : (c : After-shared_slice_known-1) → Words (samples c)
-words c j = let a = c.args in in_word a.order a.size a.block.now a.from j (below-index 256 a.block.now (λ i h. (c.type_inv.block i).fits)) c.requires.0.narrow
+words c j = let a = c.args in in_word a.order a.size a.block.now a.from j (below-index 256 a.block.now (λ i h. (c.type_inv.block i).fits)) c.requires.holds.narrow
 
 -- the greatest so far, as it is handed on
 top : (c : After-struct_told-1) → (let t = c.args.t in to_z w16 (of_z w16 t.top) ≡ t.top)
@@ -38,14 +38,14 @@ first_behind-peak-requires c =
 pub overflow_cast-result : goal.overflow_cast-result
 overflow_cast-result c =
     let a = c.args in
-    record { sfits = heights-most (samples c) (words (goal.at.overflow_cast-result c).After-shared_slice_known-1) a.count c.requires.le_count.1 a.t.heights c.requires.1.1.heights_are }
+    record { sfits = heights-most (samples c) (words (goal.at.overflow_cast-result c).After-shared_slice_known-1) a.count c.requires.le_count.1 a.t.heights c.requires.seen.heights_are }
 
 -- the sum of all samples
 sum : (c : After-struct_known-1) → (let a = c.args in (strip a.size (samples c) a.count 0).sum ≡ (to_z w64 a.t.heights -ℤ to_z w64 (a.count * 32768)))
 unfolding c
 sum c =
     let a = c.args in
-    sym (sum_is (samples c) (words (goal.at.After-struct_known-1 c).After-shared_slice_known-1) a.count c.requires.le_count.1 a.t.heights c.requires.1.1.heights_are)
+    sym (sum_is (samples c) (words (goal.at.After-struct_known-1 c).After-shared_slice_known-1) a.count c.requires.le_count.1 a.t.heights c.requires.seen.heights_are)
 
 pub overflow_sub-result : goal.overflow_sub-result
 unfolding strip

@@ -20,7 +20,7 @@ abbrev samples : Start → ℕ → ℤ
 samples s = let a = s.args in sample_at a.order a.size a.block.now a.from
 
 words : (c : After-shared_slice_known-1) → Words (samples c)
-words c j = let a = c.args in in_word a.order a.size a.block.now a.from j (below-index 256 a.block.now (λ i h. (c.type_inv.block i).fits)) c.requires.0.narrow
+words c j = let a = c.args in in_word a.order a.size a.block.now a.from j (below-index 256 a.block.now (λ i h. (c.type_inv.block i).fits)) c.requires.holds.narrow
 
 started : (c : After-anew-t) → (Seen c.args.size (samples c) c.args.a c.anew-t.result × Spanned (samples c) c.args.a c.args.a c.anew-t.result)
 started c =

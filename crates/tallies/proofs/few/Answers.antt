@@ -28,7 +28,7 @@ pub sample-z-requires : goal.sample-z-requires
 sample-z-requires c = fewer c.requires.holds _ (omega arith)
 
 pub at_rail-requires : goal.at_rail-requires
-at_rail-requires c = c.requires.0.narrow
+at_rail-requires c = c.requires.holds.narrow
 
 -- the sample is that of the point, so its extent and its mark are
 sampled : (c : After-one) → (let a = c.args in
@@ -51,7 +51,7 @@ join-t-requires c =
     let a = c.args in
     let l = c.loop-k in
     let f : ℕ → ℤ = sample_at a.order a.size a.block.now a.from in
-    let w : Words f = λ j. in_word a.order a.size a.block.now a.from j (below-index 256 a.block.now (λ i h. (c.type_inv.block i).fits)) c.requires.0.narrow in
+    let w : Words f = λ j. in_word a.order a.size a.block.now a.from j (below-index 256 a.block.now (λ i h. (c.type_inv.block i).fits)) c.requires.holds.narrow in
     next_fits f l.k (l.k + 1) (omega arith) l.t c.one.result (sampled (goal.at.join-t-requires c).After-one).0 a.size c.mark_number-mark.result (sampled (goal.at.join-t-requires c).After-one).1 l.invariant.2 w
     (omega (arith, c.loop-k-test.true, c.requires.a_le_b.1))
 

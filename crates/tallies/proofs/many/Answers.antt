@@ -50,7 +50,7 @@ join-t-requires c =
     let l = c.loop-i in
     let t = taken (goal.at.join-t-requires c).After-end_of-e in
     let f : ℕ → ℤ = sample_at a.order a.size a.block.now a.from in
-    let w : Words f = λ j. in_word a.order a.size a.block.now a.from j (below-index 256 a.block.now (λ i h. (c.type_inv.block i).fits)) c.requires.0.narrow in
+    let w : Words f = λ j. in_word a.order a.size a.block.now a.from j (below-index 256 a.block.now (λ i h. (c.type_inv.block i).fits)) c.requires.holds.narrow in
     next_fits f l.i c.end_of-e.result t.0 l.t c.measure-x.result c.measure-x.ensures a.size c.marks_of-m.result c.marks_of-m.ensures l.invariant.2 w (omega (arith, t.1, c.requires.a_le_b.1))
 
 pub loop-i-smaller : goal.loop-i-smaller

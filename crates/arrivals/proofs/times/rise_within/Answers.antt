@@ -9,8 +9,8 @@ use Rattle.arrivals.proofs.times.rise_within.Goals as goal
 pub place_rows-requires : goal.place_rows-requires
 place_rows-requires c =
     record {
-      placeable = c.requires.0.placeable;
-      size_bound = c.requires.0.inside;
+      placeable = c.requires.timed.placeable;
+      size_bound = c.requires.timed.inside;
       count_in_bounds = c.requires.count_in_bounds.0;
       size_in_bounds = omega (arith, c.requires.count_in_bounds.1);
     }

@@ -43,7 +43,7 @@ count_marks-marks-requires c =
     let a = c.args in
     let f : ℕ → ℤ = sample_at a.order a.size a.block.now a.from in
     record {
-      le_size = c.requires.1.0.narrow;
+      le_size = c.requires.holds.narrow;
       samples_len = ap length c.read_samples.ensures ∙ length_map_up f _ 64;
     }
 

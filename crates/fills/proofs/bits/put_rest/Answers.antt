@@ -42,7 +42,7 @@ put_value-requires c = let r = c.sample-z in record {
     }
 
 pub count_mark-marks-requires : goal.count_mark-marks-requires
-count_mark-marks-requires c = c.requires.1.0.narrow
+count_mark-marks-requires c = c.requires.holds.narrow
 
 -- the mark of one sample more
 one : (c : After-count_mark-marks)

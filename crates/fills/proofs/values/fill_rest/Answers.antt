@@ -28,7 +28,7 @@ pub sample-z-requires : goal.sample-z-requires
 sample-z-requires c = fewer c.requires.holds _ (omega arith)
 
 pub count_mark-marks-requires : goal.count_mark-marks-requires
-count_mark-marks-requires c = c.requires.1.0.narrow
+count_mark-marks-requires c = c.requires.holds.narrow
 
 -- the mark of one sample more
 one : (c : After-count_mark-marks)

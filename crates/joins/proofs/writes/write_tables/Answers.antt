@@ -58,13 +58,13 @@ write_table-requires c =
     let a = c.args in
     record {
       placeable = can_place a.parts.now (bytes (goal.at.write_table-requires c).After-shared_slice_known-1) a.lead a.count a.end c.requires.gathered;
-      size_bound = (row (goal.at.write_table-requires c).In-loop-k, c.requires.0.count);
+      size_bound = (row (goal.at.write_table-requires c).In-loop-k, c.requires.gathered.count);
       size_in_bounds = omega (arith, room (goal.at.write_table-requires c).In-loop-k, c.loop-k.invariant.4);
     }
 
 pub overflow_add-from-in-loop-k : goal.overflow_add-from-in-loop-k
 overflow_add-from-in-loop-k c =
-    omega (arith, row (goal.at.overflow_add-from-in-loop-k c).In-loop-k, c.requires.0.ends, first-within c.args.parts.now)
+    omega (arith, row (goal.at.overflow_add-from-in-loop-k c).In-loop-k, c.requires.gathered.ends, first-within c.args.parts.now)
 
 pub overflow_mul-to : goal.overflow_mul-to
 overflow_mul-to c = omega (arith, room (goal.at.overflow_mul-to c).In-loop-k)

@@ -26,7 +26,7 @@ loop-k-preserved c =
     let a = c.args in
     let l = c.loop-k in
     let f = a.file.now in
-    let h = c.requires.0.narrow in
+    let h = c.requires.holds.narrow in
     let r = c.sample in
     let zero_more : l.k ≡ 0 + l.k = omega arith in (
       omega arith,

@@ -87,7 +87,7 @@ returns c =
     let l = c.loop-k in
     let f : ℕ → ℤ = sample_at a.order a.size a.block.now a.from in
     let e : l.k ≡ a.b = omega (arith, l.invariant.1, c.loop-k-test.false) in
-    let w : Words f = λ j. in_word a.order a.size a.block.now a.from j (below-index 256 a.block.now (λ i h. (c.type_inv.block i).fits)) c.requires.0.narrow in
+    let w : Words f = λ j. in_word a.order a.size a.block.now a.from j (below-index 256 a.block.now (λ i h. (c.type_inv.block i).fits)) c.requires.holds.narrow in
     λ i. record {
       least = (l.invariant.2 ∙ ap (λ (j : ℕ). least (pos 32767 ∷ run f a.a j)) e ∙ least_of f w a.a a.b c.requires.a_lt_b.0) i;
       greatest = (l.invariant.3 ∙ ap (λ (j : ℕ). greatest (negsuc 32767 ∷ run f a.a j)) e ∙ greatest_of f w a.a a.b c.requires.a_lt_b.0) i;

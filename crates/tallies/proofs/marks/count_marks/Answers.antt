@@ -25,7 +25,7 @@ pub sample-z-requires : goal.sample-z-requires
 sample-z-requires c = fewer c.requires.holds _ (omega arith)
 
 pub at_rail-requires : goal.at_rail-requires
-at_rail-requires c = c.requires.0.narrow
+at_rail-requires c = c.requires.holds.narrow
 
 -- the mark of one sample more
 one : (c : After-mark_number-n)
