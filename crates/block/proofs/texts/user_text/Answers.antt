@@ -22,5 +22,5 @@ returns c =
     let t = c.text_span-s.ensures in
     record {
       result_value = t.bytes;
-      ref_ptr_value = ap (λ (n : ℕ). moved n c.args.block.ptr) t.starts;
+      ref_ptr_value = ap (λ (n : ℕ). moved n c.args.block.ref_ptr) t.starts;
     }
