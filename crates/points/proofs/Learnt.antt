@@ -59,5 +59,5 @@ module _ {M : Type 1} {𝓤 : Ura M} (𝓛 : Logic 𝓤) (mem : Memory → SProp
       → (start.clauses 𝓛 mem run κs (block, (array, (n, tt)))).ensures tt w (block, (array, (n, tt))) ≡ fact 𝓤 (Started block array n w)
   start-says κs block array n w = refl
 
-  pub next_says : (κs : Lfts 2) (w v : Bor Walk) (r : Step) → (next.clauses 𝓛 mem run κs (w, tt)).ensures tt r (v, tt) ≡ fact 𝓤 (Stepped w.now r v.now)
+  pub next_says : (κs : Lfts 2) (w v : MutBor Walk) (r : Step) → (next.clauses 𝓛 mem run κs (w, tt)).ensures tt r (v, tt) ≡ fact 𝓤 (Stepped w.now r v.now)
   next_says κs w v r = refl
