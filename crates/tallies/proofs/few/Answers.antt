@@ -35,7 +35,7 @@ sampled : (c : After-one) → (let a = c.args in
     let f = sample_at a.order a.size a.block.now a.from in
     let k = c.loop-k.k in
     (c.one.result ≡ extent_of (run f k (k + 1))) × (c.mark_number-mark.result ≡ mark_count_of a.size (run f k (k + 1))))
-unfolding c
+unfolding mark_count_of
 sampled c =
     let a = c.args in
     let f : ℕ → ℤ = sample_at a.order a.size a.block.now a.from in
@@ -43,7 +43,7 @@ sampled c =
     let r = c.sample-z in
     let z : to_z w16 (of_z w16 r.result) ≡ f k = to_z-of_z w16 r.result (record { sfits = r.type_inv }) ∙ c.sample-z.ensures in (
       c.one.ensures ∙ ap (λ (x : ℤ). extent_of (x ∷ [])) z ∙ ap extent_of (sym (run-one f k)),
-      c.mark_number-mark.ensures ∙ ap mark_number (c.at_rail.ensures ∙ ap (at_rail a.size) z) ∙ sym (add-zero (mark_number (at_rail a.size (f k)))) ∙ ap (c a.size) (sym (run-one f k)),
+      c.mark_number-mark.ensures ∙ ap mark_number (c.at_rail.ensures ∙ ap (at_rail a.size) z) ∙ sym (add-zero (mark_number (at_rail a.size (f k)))) ∙ ap (mark_count_of a.size) (sym (run-one f k)),
     )
 
 pub join-t-requires : goal.join-t-requires

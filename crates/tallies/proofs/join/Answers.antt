@@ -23,8 +23,8 @@ pub returns : goal.returns
 returns c =
     let t = c.args.t in
     let e = c.args.e in
-    let ft = c.type_inv.t in
-    let fe = c.type_inv.e in
+    let ft = c.struct_told-1.given in
+    let fe = c.struct_told-2-1.given in
     let t-least : SFits w16 t.least = record { sfits = ft.0.1 } in
     let t-greatest : SFits w16 t.greatest = record { sfits = ft.1.0.1 } in
     let t_top : SFits w16 t.top = record { sfits = ft.1.1.1.1.0.1 } in

@@ -35,7 +35,7 @@ pub returns-then-answer-lt40 : goal.returns-then-answer-lt40
 unfolding open_number open_left
 returns-then-answer-lt40 c =
     let a = c.args in
-    let told = own_short (refusal a.block.now) (open_bytes a.block.now) a.answer.now (accepts c) (omega (arith, c.if-answer-lt40.true, open_length a.block.now)) in record {
+    let told = own_short (refusal a.block.now) (open_bytes a.block.now) a.answer.now (accepts (goal.at.returns-then-answer-lt40 c).Else-o-ne0) (omega (arith, c.if-answer-lt40.true, open_length a.block.now)) in record {
       value = told.0;
       answer_after = told.1;
     }
@@ -45,7 +45,7 @@ unfolding open_number open_left
 returns c =
     let a = c.args in
     let o = c.open-o in
-    let z = accepts c in
+    let z = accepts (goal.at.returns c).Else-o-ne0 in
     let r = own_left (refusal a.block.now) (open_bytes a.block.now) a.answer.now z (omega (arith, c.if-answer-lt40.false, open_length a.block.now)) in
     record {
       value = r.0;

@@ -55,8 +55,8 @@ module _ (c : Else-place-ne0) where
 
 pub returns-then-values-place : goal.returns-then-values-place
 returns-then-values-place c =
-    let a = (start c).args in
-    let told = refused a.block.now a.array a.segment 13 a.values.now a.times.now a.marks.now (short c (omega (arith, c.if-values-place.true))) (λ z. omega arith) in record {
+    let a = (start (goal.at.returns-then-values-place c).Else-place-ne0).args in
+    let told = refused a.block.now a.array a.segment 13 a.values.now a.times.now a.marks.now (short (goal.at.returns-then-values-place c).Else-place-ne0 (omega (arith, c.if-values-place.true))) (λ z. omega arith) in record {
       value = told.0;
       values_after = told.1.0;
       times_after = told.1.1.0;
@@ -65,8 +65,8 @@ returns-then-values-place c =
 
 pub returns-then-times-place : goal.returns-then-times-place
 returns-then-times-place c =
-    let a = (start c).args in
-    let told = refused a.block.now a.array a.segment 13 a.values.now a.times.now a.marks.now (short c (omega (arith, c.if-times-place.true))) (λ z. omega arith) in record {
+    let a = (start (goal.at.returns-then-times-place c).Else-place-ne0).args in
+    let told = refused a.block.now a.array a.segment 13 a.values.now a.times.now a.marks.now (short (goal.at.returns-then-times-place c).Else-place-ne0 (omega (arith, c.if-times-place.true))) (λ z. omega arith) in record {
       value = told.0;
       values_after = told.1.0;
       times_after = told.1.1.0;
@@ -75,8 +75,8 @@ returns-then-times-place c =
 
 pub returns-then-marks-place : goal.returns-then-marks-place
 returns-then-marks-place c =
-    let a = (start c).args in
-    let told = refused a.block.now a.array a.segment 13 a.values.now a.times.now a.marks.now (short c (omega (arith, c.if-marks-place.true))) (λ z. omega arith) in record {
+    let a = (start (goal.at.returns-then-marks-place c).Else-place-ne0).args in
+    let told = refused a.block.now a.array a.segment 13 a.values.now a.times.now a.marks.now (short (goal.at.returns-then-marks-place c).Else-place-ne0 (omega (arith, c.if-marks-place.true))) (λ z. omega arith) in record {
       value = told.0;
       values_after = told.1.0;
       times_after = told.1.1.0;
@@ -85,7 +85,7 @@ returns-then-marks-place c =
 
 pub put_steps-requires : goal.put_steps-requires
 put_steps-requires c =
-    let a = (start c).args in
+    let a = (start (goal.at.put_steps-requires c).Else-place-ne0).args in
     let p = c.place_of-place in
     record {
       first_value = c.place_of-place.ensures;
@@ -96,12 +96,12 @@ put_steps-requires c =
 pub returns : goal.returns
 unfolding values_left times_left marks_left
 returns c =
-    let a = (start c).args in
+    let a = (start (goal.at.returns c).Else-place-ne0).args in
     let p = c.place_of-place in
     let z = walks a.block.now a.array a.segment p.result c.place_of-place.ensures c.if-place-ne0.false in
     let m = points_are a.block.now a.array a.segment p.result c.place_of-place.ensures z in
-    let fits : p.result.points ≤ room c = omega (arith, c.if-values-place.false, c.if-times-place.false, c.if-marks-place.false) in
-    let e = number_none a.block.now a.array a.segment p.result c.place_of-place.ensures z (room c) fits in
+    let fits : p.result.points ≤ room (goal.at.returns c).Else-place-ne0 = omega (arith, c.if-values-place.false, c.if-times-place.false, c.if-marks-place.false) in
+    let e = number_none a.block.now a.array a.segment p.result c.place_of-place.ensures z (room (goal.at.returns c).Else-place-ne0) fits in
     let number : ℕ = steps_number a.block.now a.array a.segment a.values.now a.times.now a.marks.now in
     record {
       value = e;

@@ -39,7 +39,7 @@ pub returns : goal.returns
 returns c =
     let a = c.args in
     let r = strip_answered a.block.now a.array a.segment a.columns a.least.now a.greatest.now a.answer.now c.room_for-low.result c.room_for-low.ensures c.judged-number.result (c.judged-number.ensures a.block.now c.open-o.ensures) c.if-number-ne0.false
-    c.put_columns-d.result c.put_columns-d.ensures.value c.unsigned.result (c.unsigned.ensures ∙ ap (unsigned 8) (to_z-of_z w64 c.put_columns-d.result.sum (record { sfits = c.type_inv.d.1.0.1 })))
+    c.put_columns-d.result c.put_columns-d.ensures.value c.unsigned.result (c.unsigned.ensures ∙ ap (unsigned 8) (to_z-of_z w64 c.put_columns-d.result.sum (record { sfits = c.struct_told-1.given.1.0.1 })))
     _ _ _ c.put_columns-d.ensures.least_after c.put_columns-d.ensures.greatest_after c.put_three.ensures in
     record {
       value = r.0;

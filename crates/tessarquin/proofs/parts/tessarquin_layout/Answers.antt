@@ -33,7 +33,7 @@ pub returns-then-answer-lt200 : goal.returns-then-answer-lt200
 unfolding layout_number layout_left
 returns-then-answer-lt200 c =
     let a = c.args in
-    let told = own_short (refusal a.block.now) (layout_bytes a.block.now) a.answer.now (accepts c) (omega (arith, c.if-answer-lt200.true, layout_length a.block.now)) in record {
+    let told = own_short (refusal a.block.now) (layout_bytes a.block.now) a.answer.now (accepts (goal.at.returns-then-answer-lt200 c).Else-o-ne0) (omega (arith, c.if-answer-lt200.true, layout_length a.block.now)) in record {
       value = told.0;
       answer_after = told.1;
     }
@@ -44,7 +44,7 @@ put_layout-requires c =
     let o = c.open-o in
     record {
       in_bounds = omega arith;
-      lengths_len = ap (λ (x : Opened). length x.layout.lengths) (accepted_as_lem a.block.now o.result c.open-o.ensures (accepts c));
+      lengths_len = ap (λ (x : Opened). length x.layout.lengths) (accepted_as_lem a.block.now o.result c.open-o.ensures (accepts (goal.at.put_layout-requires c).Else-o-ne0));
     }
 
 pub returns : goal.returns
@@ -52,7 +52,7 @@ unfolding layout_number layout_left starts_of
 returns c =
     let a = c.args in
     let o = c.open-o in
-    let z = accepts c in
+    let z = accepts (goal.at.returns c).Else-o-ne0 in
     let r = own_left (refusal a.block.now) (layout_bytes a.block.now) a.answer.now z (omega (arith, c.if-answer-lt200.false, layout_length a.block.now)) in
     record {
       value = r.0;
