@@ -33,7 +33,7 @@ pub returns-then-not-is_block : goal.returns-then-not-is_block
 returns-then-not-is_block c =
     let a = c.args in
     let j = c.judge-judged in
-    let k = c.is_Block in
+    let k = c.is_block in
     let told = block_refuses a.parts.now (bytes (goal.at.returns-then-not-is_block c).After-shared_slice_known-1) a.out.now j.result c.judge-judged.ensures c.if-number-ne0.false (λ e. false≢true (sym (not-true k.result c.if-not-is_block.true-raw) ∙ k.ensures.1 e)) c.refused-then-not-is_block.result c.refused-then-not-is_block.ensures in record {
       value = told.0;
       out_after = told.1;
@@ -59,7 +59,7 @@ overflow_add-total c =
     let a = c.args in
     let j = c.judge-judged in
     let v = c.lead_of-lead in
-    let k = c.is_Block in
+    let k = c.is_block in
     let t = c.total_of-total in
     omega (arith, total-small a.parts.now (bytes (goal.at.overflow_add-total c).After-shared_slice_known-1) a.out.now j.result c.judge-judged.ensures c.if-number-ne0.false (k.ensures.0 (not-false k.result c.if-not-is_block.false-raw)) v.result c.lead_of-lead.ensures t.result c.total_of-total.ensures)
 
@@ -68,7 +68,7 @@ returns-then-out-total c =
     let a = c.args in
     let j = c.judge-judged in
     let v = c.lead_of-lead in
-    let k = c.is_Block in
+    let k = c.is_block in
     let t = c.total_of-total in
     let told = short_refuses a.parts.now (bytes (goal.at.returns-then-out-total c).After-shared_slice_known-1) a.out.now j.result c.judge-judged.ensures c.if-number-ne0.false (k.ensures.0 (not-false k.result c.if-not-is_block.false-raw)) v.result c.lead_of-lead.ensures t.result c.total_of-total.ensures c.if-out-total.true c.refused-then-out-total.result c.refused-then-out-total.ensures in record {
       value = told.0;
@@ -80,7 +80,7 @@ overflow_cast-total c =
     let a = c.args in
     let j = c.judge-judged in
     let v = c.lead_of-lead in
-    let k = c.is_Block in
+    let k = c.is_block in
     let t = c.total_of-total in
     omega (arith, total-small a.parts.now (bytes (goal.at.overflow_cast-total c).After-shared_slice_known-1) a.out.now j.result c.judge-judged.ensures c.if-number-ne0.false (k.ensures.0 (not-false k.result c.if-not-is_block.false-raw)) v.result c.lead_of-lead.ensures t.result c.total_of-total.ensures)
 
@@ -89,7 +89,7 @@ write_joined-requires c =
     let a = c.args in
     let j = c.judge-judged in
     let v = c.lead_of-lead in
-    let k = c.is_Block in
+    let k = c.is_block in
     let t = c.total_of-total in
     record {
       ready = ready a.parts.now (bytes (goal.at.write_joined-requires c).After-shared_slice_known-1) a.out.now j.result c.judge-judged.ensures c.if-number-ne0.false (k.ensures.0 (not-false k.result c.if-not-is_block.false-raw)) v.result c.lead_of-lead.ensures t.result c.total_of-total.ensures;
@@ -107,7 +107,7 @@ overflow_cast-result-2 c =
     let a = c.args in
     let j = c.judge-judged in
     let v = c.lead_of-lead in
-    let k = c.is_Block in
+    let k = c.is_block in
     let t = c.total_of-total in
     omega (arith, total-small a.parts.now (bytes (goal.at.overflow_cast-result-2 c).After-shared_slice_known-1) a.out.now j.result c.judge-judged.ensures c.if-number-ne0.false (k.ensures.0 (not-false k.result c.if-not-is_block.false-raw)) v.result c.lead_of-lead.ensures t.result c.total_of-total.ensures)
 
@@ -116,7 +116,7 @@ returns c =
     let a = c.args in
     let j = c.judge-judged in
     let v = c.lead_of-lead in
-    let k = c.is_Block in
+    let k = c.is_block in
     let t = c.total_of-total in
     let done = joins a.parts.now (bytes (goal.at.returns c).After-shared_slice_known-1) a.out.now j.result c.judge-judged.ensures c.if-number-ne0.false (k.ensures.0 (not-false k.result c.if-not-is_block.false-raw)) v.result c.lead_of-lead.ensures t.result c.total_of-total.ensures (omega (arith, c.if-out-total.false)) in
     record {

@@ -26,12 +26,12 @@ pub returns-then-not-is_block : goal.returns-then-not-is_block
 returns-then-not-is_block c =
     let a = c.args in
     let j = c.judge-judged in
-    let k = c.is_Block in
+    let k = c.is_block in
     block-number a.parts.now (bytes (goal.at.returns-then-not-is_block c).After-shared_slice_known-1) a.parts.now j.result c.judge-judged.ensures c.if-number-ne0.false (λ e. false≢true (sym (not-true k.result c.if-not-is_block.true-raw) ∙ k.ensures.1 e)) 0
 
 pub returns : goal.returns
 returns c =
     let a = c.args in
     let j = c.judge-judged in
-    let k = c.is_Block in
+    let k = c.is_block in
     no_room a.parts.now (bytes (goal.at.returns c).After-shared_slice_known-1) a.parts.now j.result c.judge-judged.ensures c.if-number-ne0.false (k.ensures.0 (not-false k.result c.if-not-is_block.false-raw))
