@@ -64,10 +64,7 @@ long c = long-out (lent (goal.at.After-plan_of-plan c).After-asked-number) (byte
 
 pub returns-then-number-ne0 : goal.returns-then-number-ne0
 returns-then-number-ne0 c =
-    let told = refused_is (lent (goal.at.returns-then-number-ne0 c).After-asked-number) (order (goal.at.returns-then-number-ne0 c).After-asked-number) (wanted (goal.at.returns-then-number-ne0 c).After-asked-number) (held (goal.at.returns-then-number-ne0 c).After-asked-number) c.asked-number.result (number (goal.at.returns-then-number-ne0 c).After-asked-number) c.if-number-ne0.true c.refused.result c.refused.ensures in record {
-      value = told.0;
-      out_after = told.1;
-    }
+    let told = refused_is (lent (goal.at.returns-then-number-ne0 c).After-asked-number) (order (goal.at.returns-then-number-ne0 c).After-asked-number) (wanted (goal.at.returns-then-number-ne0 c).After-asked-number) (held (goal.at.returns-then-number-ne0 c).After-asked-number) c.asked-number.result (number (goal.at.returns-then-number-ne0 c).After-asked-number) c.if-number-ne0.true c.refused.result c.refused.ensures in record { value = told.0; out_after = told.1 }
 
 pub plan_of-plan-requires : goal.plan_of-plan-requires
 plan_of-plan-requires c =
@@ -83,10 +80,7 @@ overflow_add-long c = omega (arith, (needed (goal.at.overflow_add-long c).After-
 
 pub returns-then-out-long : goal.returns-then-out-long
 returns-then-out-long c =
-    let told = short_is (lent (goal.at.returns-then-out-long c).After-asked-number) (order (goal.at.returns-then-out-long c).After-asked-number) (wanted (goal.at.returns-then-out-long c).After-asked-number) (held (goal.at.returns-then-out-long c).After-asked-number) c.asked-number.result (number (goal.at.returns-then-out-long c).After-asked-number) c.if-number-ne0.false (omega (arith, c.if-out-long.true, long (goal.at.returns-then-out-long c).After-plan_of-plan)) c.refused-then-out-long.result c.refused-then-out-long.ensures in record {
-      value = told.0;
-      out_after = told.1;
-    }
+    let told = short_is (lent (goal.at.returns-then-out-long c).After-asked-number) (order (goal.at.returns-then-out-long c).After-asked-number) (wanted (goal.at.returns-then-out-long c).After-asked-number) (held (goal.at.returns-then-out-long c).After-asked-number) c.asked-number.result (number (goal.at.returns-then-out-long c).After-asked-number) c.if-number-ne0.false (omega (arith, c.if-out-long.true, long (goal.at.returns-then-out-long c).After-plan_of-plan)) c.refused-then-out-long.result c.refused-then-out-long.ensures in record { value = told.0; out_after = told.1 }
 
 pub write_cut-requires : goal.write_cut-requires
 write_cut-requires c = record {

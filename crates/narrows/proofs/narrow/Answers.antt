@@ -27,10 +27,7 @@ pub returns-then-number-ne0 : goal.returns-then-number-ne0
 returns-then-number-ne0 c =
     let s = c.args.block.now in
     let n = number (goal.at.returns-then-number-ne0 c).After-open-o in
-    let told = refuses s c.args.out.now c.open-o.result.refusal (n ∙ block-number s (length c.args.out.now) (λ z. c.if-number-ne0.true (n ∙ z))) c.if-number-ne0.true c.refused.result c.refused.ensures in record {
-      value = told.0;
-      out_after = told.1;
-    }
+    let told = refuses s c.args.out.now c.open-o.result.refusal (n ∙ block-number s (length c.args.out.now) (λ z. c.if-number-ne0.true (n ∙ z))) c.if-number-ne0.true c.refused.result c.refused.ensures in record { value = told.0; out_after = told.1 }
 
 pub narrow_byte-requires : goal.narrow_byte-requires
 narrow_byte-requires c = (c.open-o.ensures, accepted (goal.at.narrow_byte-requires c).Else-number-ne0, sym (kind (goal.at.narrow_byte-requires c).Else-number-ne0) ∙ c.if-o-eq0.true)

@@ -26,19 +26,13 @@ unfolding open_number open_left
 returns-then-o-ne0 c =
     let a = c.args in
     let o = c.open-o in
-    let told = own_refused (refusal a.block.now) (open_bytes a.block.now) a.answer.now o.result.refusal (number_is a.block.now o.result c.open-o.ensures) c.if-o-ne0.true in record {
-      value = told.0;
-      answer_after = told.1;
-    }
+    let told = own_refused (refusal a.block.now) (open_bytes a.block.now) a.answer.now o.result.refusal (number_is a.block.now o.result c.open-o.ensures) c.if-o-ne0.true in record { value = told.0; answer_after = told.1 }
 
 pub returns-then-answer-lt40 : goal.returns-then-answer-lt40
 unfolding open_number open_left
 returns-then-answer-lt40 c =
     let a = c.args in
-    let told = own_short (refusal a.block.now) (open_bytes a.block.now) a.answer.now (accepts (goal.at.returns-then-answer-lt40 c).Else-o-ne0) (omega (arith, c.if-answer-lt40.true, open_length a.block.now)) in record {
-      value = told.0;
-      answer_after = told.1;
-    }
+    let told = own_short (refusal a.block.now) (open_bytes a.block.now) a.answer.now (accepts (goal.at.returns-then-answer-lt40 c).Else-o-ne0) (omega (arith, c.if-answer-lt40.true, open_length a.block.now)) in record { value = told.0; answer_after = told.1 }
 
 pub returns : goal.returns
 unfolding open_number open_left

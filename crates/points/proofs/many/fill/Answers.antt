@@ -19,10 +19,7 @@ returns-then-o-ne0 c =
     let o = c.open-o in
     let a = c.args in
     let q = fill_refused a.block.now a.array a.segment o.result.refusal a.out.now (fill_block a.block.now o.result c.open-o.ensures a.array a.segment (length a.out.now) c.if-o-ne0.true) c.if-o-ne0.true in
-    record {
-      value = c.unfilled.ensures ∙ q.0;
-      out_after = q.1;
-    }
+    record { value = c.unfilled.ensures ∙ q.0; out_after = q.1 }
 
 pub returns-then-number-ne0 : goal.returns-then-number-ne0
 returns-then-number-ne0 c =
@@ -31,10 +28,7 @@ returns-then-number-ne0 c =
     let h = c.chosen-number in
     let q =
     fill_refused a.block.now a.array a.segment h.result a.out.now (fill_segment a.block.now o.result c.open-o.ensures a.array a.segment (length a.out.now) c.if-o-ne0.false h.result c.chosen-number.ensures c.if-number-ne0.true) c.if-number-ne0.true in
-    record {
-      value = c.unfilled-then-number-ne0.ensures ∙ q.0;
-      out_after = q.1;
-    }
+    record { value = c.unfilled-then-number-ne0.ensures ∙ q.0; out_after = q.1 }
 
 pub returns-then-out-o : goal.returns-then-out-o
 returns-then-out-o c =
@@ -43,10 +37,7 @@ returns-then-out-o c =
     let h = c.chosen-number in
     let q =
     fill_refused a.block.now a.array a.segment 13 a.out.now (fill_last a.block.now o.result c.open-o.ensures a.array a.segment (length a.out.now) c.if-o-ne0.false h.result c.chosen-number.ensures c.if-number-ne0.false c.if-out-o.true) (λ e. omega arith) in
-    record {
-      value = c.unfilled-then-out-o.ensures ∙ q.0;
-      out_after = q.1;
-    }
+    record { value = c.unfilled-then-out-o.ensures ∙ q.0; out_after = q.1 }
 
 pub put-marks-requires : goal.put-marks-requires
 put-marks-requires c =
