@@ -5,7 +5,6 @@ use native.Mathlib.Omega.{arith}
 use mathlib.Core.Bool.{Bool, true, false}
 use lib.Dec.{eqb}
 use borrow.Author.Tests.{eqb-true, eqb-false, eq-eqb, ne_eqb, not-true, not-false}
-use borrow.Author.Rules.{rules}
 use Rattle.seen.specs.Seen.{seen_of}
 use Rattle.seen.proofs.Bits.{seen_small}
 use Rattle.arrivals.specs.Arrivals.{index?, alike?}

@@ -3,7 +3,6 @@ use Prim.Native.Nat.{◌<◌}
 use native.Mathlib.Omega.{arith}
 use mathlib.Core.Bool.{true}
 use lib.ListN.{length, replicate}
-use borrow.Author.Rules.{rules}
 use Rattle.rules.specs.Numbers.{Bytes}
 use Rattle.rules.proofs.Numbers.{below-index}
 use Rattle.parts.proofs.Standing.{part-number}

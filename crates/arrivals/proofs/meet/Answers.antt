@@ -1,12 +1,11 @@
 -- The first part is met, then one more at each turn; a bad one ends the loop.
 use mathlib.Core.Path.{◌≡◌, refl, sym, ap, ◌∙◌}
-use Prim.Native.Nat.{◌+◌, ◌-◌, ◌≤◌}
+use Prim.Native.Nat.{◌+◌, ◌-◌}
 use native.Mathlib.Omega.{arith}
 use mathlib.Core.Bool.{◌&&◌}
 use mathlib.Core.List.{[]}
 use lib.ListN.{length, get_or}
 use borrow.Author.Tests.{not-true, not-false}
-use borrow.Author.Rules.{rules}
 use Rattle.rules.specs.Numbers.{Bytes}
 use Rattle.rules.specs.Rules.{payload_start, refusal}
 use Rattle.rules.proofs.Numbers.{below-index}
@@ -15,7 +14,7 @@ use Rattle.seen.proofs.Bits.{seen_none}
 use Rattle.parts.specs.declared.Part.{Part}
 use Rattle.parts.specs.Parts.{this, answer}
 use Rattle.parts.proofs.Standing.{part-number, part-good, reach, some_bytes}
-use Rattle.arrivals.proofs.Meeting.{Met, met_bad}
+use Rattle.arrivals.proofs.Meeting.{met_bad}
 use Rattle.arrivals.proofs.Turns.{index-says, fresh-says, first_is, first_met, this_comparable, next_met, refused_judges, many_apart, apart, met_judges}
 use Rattle.arrivals.proofs.meet.Goals as goal
 use Rattle.arrivals.proofs.meet.Goals.{After-shared_slice_known-1, Else-number-ne0}
@@ -58,9 +57,9 @@ text_length-text-requires c = let l = lead_is (goal.at.text_length-text-requires
 
 pub note-requires : goal.note-requires
 note-requires c = record {
-      seen_len = refl;
-      k_bound = λ t. let k = c.args.first.index in ((index-says k (sym c.is_index-together.ensures ∙ t)).1, seen_none k);
-    }
+  seen_len = refl;
+  k_bound = λ t. let k = c.args.first.index in ((index-says k (sym c.is_index-together.ensures ∙ t)).1, seen_none k);
+}
 
 pub loop-here-init : goal.loop-here-init
 loop-here-init c =

@@ -3,7 +3,6 @@ use mathlib.Core.Path.{refl, ◌∙◌}
 use Prim.Native.Nat.{◌+◌, ◌≤◌}
 use native.Mathlib.Omega.{arith}
 use lib.ListN.{length}
-use borrow.Author.Rules.{rules}
 use Rattle.rules.specs.Numbers.{Bytes}
 use Rattle.rules.specs.Template.{template, width_at}
 use Rattle.rules.proofs.Numbers.{below-index}

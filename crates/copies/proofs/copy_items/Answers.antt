@@ -4,7 +4,6 @@ use mathlib.Core.Bool.{Bool}
 use Rattle.rules.specs.Numbers.{splice}
 use Rattle.copies.specs.Copies.{items}
 use Rattle.copies.proofs.Items.{items-part}
-use borrow.Author.Rules.{rules}
 use Rattle.copies.proofs.copy_items.Goals as goal
 
 pub returns-then-same : goal.returns-then-same

@@ -8,7 +8,6 @@ use Rattle.rules.specs.Numbers.{splice}
 use Rattle.copies.specs.Copies.{items}
 use Rattle.rules.proofs.Splices.{splice_none}
 use Rattle.copies.proofs.Items.{items-one, row_room, one_or_two}
-use borrow.Author.Rules.{rules}
 use Rattle.copies.proofs.copy_row.Goals as goal
 
 pub returns-then-count-eq0 : goal.returns-then-count-eq0

@@ -3,8 +3,7 @@ use mathlib.Core.Path.{◌≡◌, refl, ◌∙◌}
 use Prim.Native.Nat.{◌+◌, ◌*◌, ◌-◌, ◌≤◌}
 use native.Mathlib.Omega.{arith}
 use lib.ListN.{length}
-use Rattle.rules.specs.Numbers.{splice}
-use Rattle.copies.specs.Copies.{items, rows_of}
+use Rattle.copies.specs.Copies.{items}
 use Rattle.rules.proofs.Splices.{splice_none}
 use Rattle.copies.proofs.Laws.{gather-step}
 use Rattle.copies.proofs.Items.{rows-room, length-items}

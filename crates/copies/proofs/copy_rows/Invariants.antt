@@ -1,14 +1,9 @@
 -- The loop gathers one row more at each turn.
-use mathlib.Core.Path.{◌≡◌, refl, ◌∙◌}
-use Prim.Native.Nat.{◌+◌, ◌*◌, ◌-◌, ◌≤◌}
-use native.Mathlib.Omega.{arith}
+use mathlib.Core.Path.{◌≡◌}
+use Prim.Native.Nat.{◌-◌, ◌≤◌}
 use lib.ListN.{length}
 use Rattle.rules.specs.Numbers.{splice}
-use Rattle.copies.specs.Copies.{items, rows_of}
-use Rattle.rules.proofs.Splices.{splice_none}
-use Rattle.copies.proofs.Laws.{gather-step}
-use Rattle.copies.proofs.Items.{rows-room, length-items}
-use borrow.Author.Rules.{rules}
+use Rattle.copies.specs.Copies.{rows_of}
 use Rattle.copies.proofs.copy_rows.Given as goal
 
 abbrev pub invariant-loop-n : goal.invariant-loop-n

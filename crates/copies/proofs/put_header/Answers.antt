@@ -1,10 +1,8 @@
 -- Eleven stores are one write (`sets-eq`), and the quotients are the digits by computation.
 use native.Mathlib.Omega.{arith}
-use lib.ListN.{length-set}
 use lib.Seq.{sets-eq}
 use Rattle.rules.specs.Numbers.{digits}
 use Rattle.copies.specs.Copies.{header}
-use borrow.Author.Rules.{rules}
 use Rattle.copies.proofs.put_header.Goals as goal
 
 pub returns : goal.returns

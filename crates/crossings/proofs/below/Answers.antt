@@ -10,7 +10,6 @@ use Rattle.crossings.proofs.Scans.{as_lent}
 use Rattle.crossings.proofs.Calls.{first_is}
 use mir.Syntax.{w16}
 use mir.Val.{SFits}
-use borrow.Author.Rules.{rules}
 use Rattle.crossings.proofs.below.Goals as goal
 use Rattle.crossings.proofs.below.Goals.{After-shared_slice_known-1}
 

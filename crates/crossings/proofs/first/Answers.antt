@@ -10,7 +10,6 @@ use Rattle.rules.proofs.Numbers.{below-index}
 use Rattle.points.proofs.Refusals.{points_are, point_none}
 use Rattle.points.proofs.Fillings.{some-points}
 use Rattle.crossings.proofs.Calls.{refused, by_block, by_level, by_segment, at_point, at_none}
-use borrow.Author.Rules.{rules}
 use borrow.Author.Tests.{not-true, not-false}
 use Rattle.crossings.proofs.first.Goals as goal
 use Rattle.crossings.proofs.first.Goals.{After-shared_slice_known-1, Else-number-ne0}
@@ -56,9 +55,9 @@ returns-then-number-ne0 c =
 
 pub below-point-requires : goal.below-point-requires
 below-point-requires c = record {
-      lent = record { opens = c.open-o.ensures; answers = answered (goal.at.below-point-requires c).Else-number-ne0 };
-      t = subst T (sym (level_finite (goal.at.below-point-requires c).Else-number-ne0)) tt;
-    }
+  lent = record { opens = c.open-o.ensures; answers = answered (goal.at.below-point-requires c).Else-number-ne0 };
+  t = subst T (sym (level_finite (goal.at.below-point-requires c).Else-number-ne0)) tt;
+}
 
 pub returns-then-point-o : goal.returns-then-point-o
 returns-then-point-o c =

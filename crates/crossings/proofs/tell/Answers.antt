@@ -1,7 +1,6 @@
 -- Each case by its numbers.
 use mathlib.Core.Path.{sym, ap}
 use Rattle.crossings.specs.Answers.{told_by}
-use borrow.Author.Rules.{rules}
 use Rattle.crossings.proofs.tell.Goals as goal
 
 pub returns-in-At : goal.returns-in-At

@@ -4,7 +4,6 @@ use Prim.Native.Nat.{ℕ, ◌*◌}
 use native.Mathlib.Omega.{arith}
 use Rattle.cuts.specs.Cuts.{setup_as}
 use Rattle.cuts.proofs.Asking.{word_product, block-number, order-number, segment-number, point_number, sparse_number, no_number}
-use borrow.Author.Rules.{rules}
 use Rattle.cuts.proofs.asked.Goals as goal
 
 pub returns-then-n-ne0 : goal.returns-then-n-ne0

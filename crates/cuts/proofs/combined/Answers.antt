@@ -3,7 +3,6 @@ use native.Mathlib.Omega.{arith}
 use Rattle.cuts.specs.Cuts.{setup_as}
 use Rattle.cuts.proofs.Asking.{word_product}
 use Rattle.cuts.proofs.Combining.{sp_above, fp_above, one-setup}
-use borrow.Author.Rules.{rules}
 use Rattle.cuts.proofs.combined.Goals as goal
 
 pub overflow_mul-sp : goal.overflow_mul-sp

@@ -14,7 +14,6 @@ use Rattle.cuts.specs.Cuts.{setup_as}
 use Rattle.cuts.specs.Plans.{Ready, plan_in}
 use Rattle.cuts.proofs.Asking.{refused_is, accepted_block, allows, short_is, written_is}
 use Rattle.cuts.proofs.Readies.{FrontNeeds, front_needs, plan_needs, count-out, count_small, long-out}
-use borrow.Author.Rules.{rules}
 use Rattle.cuts.proofs.cut.Goals as goal
 use Rattle.cuts.proofs.cut.Goals.{After-asked-number, After-plan_of-plan, Else-number-ne0}
 
@@ -84,9 +83,9 @@ returns-then-out-long c =
 
 pub write_cut-requires : goal.write_cut-requires
 write_cut-requires c = record {
-      ready = ready (goal.at.write_cut-requires c).After-plan_of-plan;
-      total_in_bounds = omega (arith, c.if-out-long.false);
-    }
+  ready = ready (goal.at.write_cut-requires c).After-plan_of-plan;
+  total_in_bounds = omega (arith, c.if-out-long.false);
+}
 
 pub overflow_cast-result : goal.overflow_cast-result
 overflow_cast-result c = omega (arith, (needed (goal.at.overflow_cast-result c).After-plan_of-plan).total-small)

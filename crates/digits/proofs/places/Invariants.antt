@@ -1,9 +1,7 @@
 -- Each turn takes a digit away and counts it.
 use mathlib.Core.Path.{◌≡◌}
 use Prim.Native.Nat.{◌+◌, ◌≤◌}
-use native.Mathlib.Omega.{arith}
 use Rattle.digits.specs.Digits.{places}
-use Rattle.digits.proofs.Spelled.{places-small, places-step}
 use Rattle.digits.proofs.places.Given as goal
 
 abbrev pub invariant-loop-rest : goal.invariant-loop-rest

@@ -1,14 +1,9 @@
 -- What is left of the digits, written over what stands there, is always the whole.
-use mathlib.Core.Path.{◌≡◌, refl, sym, ap, ◌∙◌}
-use Prim.Native.Nat.{ℕ, ◌+◌, ◌-◌, ◌/◌, ◌≤◌}
-use native.Mathlib.Nat.{mod-lt}
-use native.Mathlib.Omega.{arith}
-use lib.ListN.{length, set, length-set}
+use mathlib.Core.Path.{◌≡◌}
+use Prim.Native.Nat.{◌-◌, ◌≤◌}
+use lib.ListN.{length}
 use Rattle.rules.specs.Numbers.{digits, splice}
 use Rattle.digits.specs.Digits.{spelled}
-use Rattle.rules.proofs.Splices.{splice_none}
-use Rattle.digits.proofs.Spelled.{digit-step}
-use borrow.Author.Rules.{rules}
 use Rattle.digits.proofs.put_digits.Given as goal
 
 abbrev pub invariant-loop-left : goal.invariant-loop-left

@@ -1,5 +1,5 @@
 -- Digit by digit: the number of those read so far, until one is none.
-use mathlib.Core.Path.{◌≡◌, refl, sym, ap, ap₂, ◌∙◌}
+use mathlib.Core.Path.{◌≡◌, sym, ap, ap₂, ◌∙◌}
 use mathlib.Core.Bool.{true, false}
 use mathlib.Core.List.{List}
 use Prim.Native.Nat.{ℕ, suc, ◌+◌, ◌-◌, ◌*◌, ◌^◌, ◌≤◌, ◌<◌}
@@ -13,7 +13,6 @@ use Rattle.rules.proofs.Frames.{digit-says}
 use Rattle.rules.proofs.Numbers.{below-take}
 use Rattle.digits.specs.Digits.{value_of, digits_at}
 use Rattle.digits.proofs.Runs.{digit_more, digit_stop, digits-below, digits_few, value_next, value-small}
-use borrow.Author.Rules.{rules}
 use Rattle.digits.proofs.read.Invariants.{text}
 use Rattle.digits.proofs.read.Goals as goal
 use Rattle.digits.proofs.read.Goals.{Else-not-is_digit}

@@ -1,19 +1,9 @@
 -- Digit by digit: the number of those read so far, until one is none.
-use mathlib.Core.Path.{◌≡◌, refl, sym, ap, ap₂, ◌∙◌}
-use mathlib.Core.Bool.{true, false}
+use mathlib.Core.Path.{◌≡◌}
 use mathlib.Core.List.{List}
-use Prim.Native.Nat.{ℕ, suc, ◌+◌, ◌-◌, ◌*◌, ◌^◌, ◌≤◌, ◌<◌}
-use native.Mathlib.Omega.{arith}
-use lib.ListN.{length, get_or, take, drop, length-take, length-drop}
-use lib.Seq.{take_all, get_or-take, get_or-drop}
-use borrow.Author.Tests.{not-true, not-false}
-use Rattle.rules.specs.Numbers.{low}
-use Rattle.rules.specs.Rules.{digit?}
-use Rattle.rules.proofs.Frames.{digit-says}
-use Rattle.rules.proofs.Numbers.{below-take}
+use Prim.Native.Nat.{ℕ, ◌-◌, ◌≤◌}
+use lib.ListN.{length, take, drop}
 use Rattle.digits.specs.Digits.{value_of, digits_at}
-use Rattle.digits.proofs.Runs.{digit_more, digit_stop, digits-below, digits_few, value_next, value-small}
-use borrow.Author.Rules.{rules}
 use Rattle.digits.proofs.read.Given as goal
 
 -- the bytes that are looked at

@@ -1,6 +1,5 @@
 -- By the test.
 use borrow.Author.Tests.{lt-ltb, le-ltb}
-use borrow.Author.Rules.{rules}
 use Rattle.digits.proofs.sign_of.Goals as goal
 
 pub returns-then-d-lt10 : goal.returns-then-d-lt10

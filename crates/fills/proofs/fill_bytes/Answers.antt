@@ -14,10 +14,10 @@ use Rattle.fills.proofs.fill_bytes.Goals as goal
 
 pub fill-requires : goal.fill-requires
 fill-requires c = record {
-      finite_value = search rules;
-      holds = record { narrow = (omega arith, omega arith); inside = omega arith };
-      count_in_bounds = search rules;
-    }
+  finite_value = search rules;
+  holds = record { narrow = (omega arith, omega arith); inside = omega arith };
+  count_in_bounds = search rules;
+}
 
 pub returns : goal.returns
 unfolding value_at values_at mark_count_at

@@ -5,7 +5,7 @@ use Rattle.fills.proofs.fill_words.Goals as goal
 
 pub fill-requires : goal.fill-requires
 fill-requires c = record {
-      finite_value = search rules;
-      holds = record { narrow = (omega arith, omega arith); inside = omega arith };
-      count_in_bounds = search rules;
-    }
+  finite_value = search rules;
+  holds = record { narrow = (omega arith, omega arith); inside = omega arith };
+  count_in_bounds = search rules;
+}

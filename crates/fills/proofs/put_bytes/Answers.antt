@@ -14,10 +14,10 @@ use Rattle.fills.proofs.put_bytes.Goals as goal
 
 pub put-requires : goal.put-requires
 put-requires c = record {
-      finite_value = search rules;
-      holds = record { narrow = (omega arith, omega arith); inside = omega arith };
-      count_in_bounds = search rules;
-    }
+  finite_value = search rules;
+  holds = record { narrow = (omega arith, omega arith); inside = omega arith };
+  count_in_bounds = search rules;
+}
 
 pub returns : goal.returns
 unfolding value_at bits_at mark_count_at

@@ -1,5 +1,4 @@
 -- The byte at a place, or what stands for those past the end.
-use borrow.Author.Rules.{rules}
 use mathlib.Core.Path.{sym}
 use lib.ListN.{get_or-eq_default}
 use Rattle.frames.proofs.byte_or_zero.Goals as goal

@@ -1,5 +1,5 @@
 -- Fewer digits than d, or all d of them.
-use mathlib.Core.Path.{◌≡◌, sym, ap, ◌∙◌}
+use mathlib.Core.Path.{◌≡◌, ap, ◌∙◌}
 use Prim.Native.Nat.{ℕ, ◌+◌, ◌-◌}
 use native.Mathlib.Omega.{arith}
 use lib.ListN.{length, take, drop, length-take}
@@ -8,7 +8,6 @@ use Rattle.digits.specs.Digits.{digits_at, run_of}
 use Rattle.digits.specs.declared.Run.{Run}
 use Rattle.digits.proofs.Runs.{digits_few}
 use Rattle.frames.proofs.Digits.{standing, digits_fewer, digits-read}
-use borrow.Author.Rules.{rules}
 use Rattle.frames.proofs.digits_of.Goals as goal
 use Rattle.frames.proofs.digits_of.Goals.{After-read-run}
 

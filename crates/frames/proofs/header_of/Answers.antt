@@ -6,7 +6,6 @@ use native.Mathlib.Omega.{arith}
 use lib.ListN.{get_or}
 use borrow.Author.Tests.{not-true, not-false}
 use Rattle.frames.proofs.Headers.{started, started_says, unframed_short, unframed_start, unframed_end, framed-digits}
-use borrow.Author.Rules.{rules}
 use Rattle.frames.proofs.header_of.Goals as goal
 use Rattle.frames.proofs.header_of.Goals.{Else-not-block-d}
 

@@ -1,5 +1,4 @@
 -- The three tests of rule 2, with L and the payload's start as they are handed over.
-use borrow.Author.Rules.{rules}
 use Rattle.numbers.proofs.Bools.{and_assoc, and_end}
 use Rattle.rules.specs.Rules.{sized}
 use Rattle.frames.proofs.is_sized.Goals as goal

@@ -1,6 +1,5 @@
 -- Four stores, from the last field to the first.
 use Rattle.heads.proofs.Heads.{stored_four}
-use borrow.Author.Rules.{rules}
 use Rattle.heads.proofs.put_lengths.Goals as goal
 
 pub returns : goal.returns

@@ -6,7 +6,6 @@ use Rattle.rules.specs.Numbers.{Bytes, bytes, splice}
 use Rattle.rules.proofs.Numbers.{below-index}
 use Rattle.heads.specs.Heads.{length_changes, place_changes, longs}
 use Rattle.heads.proofs.Heads.{head-written}
-use borrow.Author.Rules.{rules}
 use Rattle.heads.proofs.write_head.Goals as goal
 use Rattle.heads.proofs.write_head.Goals.{After-shared_slice_known-1}
 

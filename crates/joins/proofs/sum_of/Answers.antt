@@ -2,7 +2,6 @@
 use Prim.Native.Nat.{ℕ, ◌*◌, ◌≤◌, ◌<◌}
 use native.Mathlib.Nat.{mul-le-mul_right}
 use native.Mathlib.Omega.{arith}
-use borrow.Author.Rules.{rules}
 use Rattle.joins.proofs.sum_of.Goals as goal
 
 small : (n x : ℕ) → n ≤ 1000 → x < 4294967296 → n * x < 4294967296000

@@ -6,7 +6,6 @@ use mathlib.Core.Bool.{Bool}
 use lib.Ieee.{Float, binary32, of_bits, lt, le}
 use mir.Syntax.{w16}
 use mir.ValLaws.{to_z-of_z}
-use borrow.Author.Rules.{rules}
 use Rattle.rules.specs.Points.{value_of}
 use Rattle.levels.proofs.Ranks.{bounded, rising_bounds, falling_bounds, no_bounds}
 use Rattle.levels.proofs.Rising.{direction, reaches_rises}

@@ -1,6 +1,5 @@
 -- In 32 bits the difference fits, and in 16 bits it is the same number.
 use Rattle.levels.proofs.Ranks.{difference_fits, cast_fits, cast_is}
-use borrow.Author.Rules.{rules}
 use Rattle.levels.proofs.raised.Goals as goal
 
 pub overflow_sub-result : goal.overflow_sub-result

@@ -5,7 +5,6 @@ use mathlib.Core.Bool.{Bool, cond}
 use mir.Syntax.{w16}
 use mir.ValLaws.{to_z-of_z}
 use Rattle.levels.specs.Levels.{raised, ranked}
-use borrow.Author.Rules.{rules}
 use Rattle.levels.proofs.ranked.Goals as goal
 
 pub returns-then-falling : goal.returns-then-falling

@@ -11,13 +11,11 @@ use Rattle.rules.specs.Wave.{Wave, size_of, points}
 use Rattle.rules.specs.Rules.{opened}
 use Rattle.rules.specs.Points.{sample, value, mark, mark_number, mark_count_of, mark_count}
 use Rattle.rules.proofs.Numbers.{below-index}
-use Rattle.fills.specs.Fills.{over}
 use Rattle.rules.proofs.Marks.{marks_few}
 use Rattle.fills.proofs.Marking.{marks-one}
 use Rattle.fills.proofs.Writes.{over_none, map-one}
 use Rattle.points.specs.Walks.{after_of, place_after}
 use Rattle.measured.proofs.Walked.{all-written, points_are, handed, stopped}
-use borrow.Author.Rules.{rules}
 use Rattle.measured.proofs.put_points.Goals as goal
 use Rattle.measured.proofs.put_points.Goals.{After-mark_number, After-shared_slice_known-1, In-Point, Start}
 

@@ -9,7 +9,6 @@ use Rattle.block.specs.declared.Opened.{Opened}
 use Rattle.block.proofs.Answers.{number_is, accepted_as_lem}
 use Rattle.narrowing.specs.Narrow.{comm_type}
 use Rattle.narrows.proofs.Answers.{block-number, refuses}
-use borrow.Author.Rules.{rules}
 use Rattle.narrows.proofs.narrow.Goals as goal
 use Rattle.narrows.proofs.narrow.Goals.{After-open-o, Else-number-ne0}
 

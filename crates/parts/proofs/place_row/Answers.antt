@@ -3,7 +3,6 @@ use mathlib.Core.Path.{sym, ap, ◌∙◌}
 use Prim.Native.Nat.{◌+◌, ◌-◌, ◌*◌, ◌≤◌}
 use native.Mathlib.Omega.{arith}
 use lib.ListN.{length}
-use borrow.Author.Rules.{rules}
 use Rattle.rules.specs.Numbers.{Bytes, splice}
 use Rattle.rules.proofs.Numbers.{below-index}
 use Rattle.copies.specs.Copies.{part}
@@ -50,9 +49,9 @@ returns-then-size-eq8 c =
 
 pub copy_bytes-requires : goal.copy_bytes-requires
 copy_bytes-requires c = record {
-      count_in_bounds = c.requires.size_in_bounds;
-      count_in_bounds_2 = room (goal.at.copy_bytes-requires c).Else-count-k;
-    }
+  count_in_bounds = c.requires.size_in_bounds;
+  count_in_bounds_2 = room (goal.at.copy_bytes-requires c).Else-count-k;
+}
 
 pub returns : goal.returns
 returns c =

@@ -4,7 +4,6 @@ use Prim.Native.Nat.{ℕ, ◌+◌, ◌-◌, ◌≤◌, ◌<◌}
 use native.Mathlib.Omega.{arith}
 use mathlib.Core.List.{List}
 use lib.ListN.{length}
-use borrow.Author.Rules.{rules}
 use Rattle.copies.specs.Copies.{part}
 use Rattle.joining.specs.Join.{index_of}
 use Rattle.parts.specs.Parts.{this, Sound, placed}

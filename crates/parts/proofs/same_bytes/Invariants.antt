@@ -1,12 +1,9 @@
 -- The loop compares one byte more at each turn.
 use mathlib.Core.Path.{◌≡◌}
 use Prim.Native.Nat.{◌+◌, ◌-◌, ◌≤◌}
-use native.Mathlib.Omega.{arith}
 use mathlib.Core.Bool.{◌&&◌}
 use Rattle.rules.specs.Rules.{same}
 use Rattle.copies.specs.Copies.{part}
-use borrow.Author.Rules.{rules}
-use Rattle.parts.proofs.Comparing.{compared_first, compared_step, compared_last}
 use Rattle.parts.proofs.same_bytes.Given as goal
 
 abbrev pub invariant-loop-i : goal.invariant-loop-i

@@ -1,6 +1,5 @@
 -- The test of each case.
 use mathlib.Core.Path.{sym, ap, ◌∙◌}
-use borrow.Author.Rules.{rules}
 use Rattle.scale.specs.declared.TimeRule.{TimeRule}
 use Rattle.scale.specs.Scale.{rule_as, finite_rule}
 use Rattle.scale.proofs.is_finite_rule.Goals as goal

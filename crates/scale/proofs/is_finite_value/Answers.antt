@@ -1,7 +1,6 @@
 -- Both tests.
 use mathlib.Core.Path.{ap₂}
 use mathlib.Core.Bool.{Bool, ◌&&◌}
-use borrow.Author.Rules.{rules}
 use Rattle.scale.proofs.is_finite_value.Goals as goal
 
 pub returns : goal.returns

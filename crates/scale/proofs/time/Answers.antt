@@ -3,7 +3,6 @@ use mathlib.Core.Path.{◌≡◌, sym, subst}
 use Prim.Native.Nat.{ℕ}
 use native.Mathlib.Omega.{arith}
 use lib.Ieee.{Float}
-use borrow.Author.Rules.{rules}
 use Rattle.rules.specs.Points.{time_by, exact_time, Near}
 use Rattle.scale.specs.declared.TimeRule.{TimeRule}
 use Rattle.scale.specs.Scale.{rule_as, FiniteRule}
@@ -15,21 +14,21 @@ Timed i r rule = (r ≡ time_by (rule_as rule) i) × Near 1074 (exact_time (rule
 
 pub along-requires : goal.along-requires
 along-requires c = record {
-      finite_pair = subst FiniteRule c.in-Segment.is c.requires.finite_rule;
-      i_bound = omega arith;
-    }
+  finite_pair = subst FiniteRule c.in-Segment.is c.requires.finite_rule;
+  i_bound = omega arith;
+}
 
 pub after-requires : goal.after-requires
 after-requires c = record {
-      finite_pair = subst FiniteRule c.in-Ris.is c.requires.finite_rule;
-      i_bound = omega arith;
-    }
+  finite_pair = subst FiniteRule c.in-Ris.is c.requires.finite_rule;
+  i_bound = omega arith;
+}
 
 pub along-requires-in-Horizontal : goal.along-requires-in-Horizontal
 along-requires-in-Horizontal c = record {
-      finite_pair = subst FiniteRule c.in-Horizontal.is c.requires.finite_rule;
-      i_bound = omega arith;
-    }
+  finite_pair = subst FiniteRule c.in-Horizontal.is c.requires.finite_rule;
+  i_bound = omega arith;
+}
 
 pub returns-in-Segment : goal.returns-in-Segment
 returns-in-Segment c =

@@ -2,7 +2,6 @@ use mathlib.Core.Path.{ap, ◌∙◌}
 use Prim.Native.Nat.{ℕ, ◌/◌, ◌<◌}
 use native.Mathlib.Omega.{arith}
 use lib.ListN.{length, set}
-use borrow.Author.Rules.{rules}
 use Rattle.seen.specs.Seen.{seen_of}
 use Rattle.seen.proofs.Bits.{seen_set}
 use Rattle.seen.proofs.add.Goals as goal
@@ -10,9 +9,9 @@ use Rattle.seen.proofs.add.Goals as goal
 pub with_bit-requires : goal.with_bit-requires
 unfolding seen_of
 with_bit-requires c = record {
-      b_bound = omega arith;
-      b_value = c.requires.k_value;
-    }
+  b_bound = omega arith;
+  b_value = c.requires.k_value;
+}
 
 pub returns : goal.returns
 returns c =

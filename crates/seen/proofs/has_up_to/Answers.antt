@@ -1,12 +1,10 @@
 -- The loop counts down: what is left is asked for still.
-use mathlib.Core.Path.{◌≡◌, refl}
-use Prim.Native.Nat.{◌+◌, ◌-◌}
+use mathlib.Core.Path.{refl}
+use Prim.Native.Nat.{◌-◌}
 use native.Mathlib.Omega.{arith}
-use mathlib.Core.Bool.{◌&&◌}
 use lib.Dec.{eqb}
 use Rattle.rules.specs.Numbers.{up_from}
 use Rattle.rules.specs.Rules.{every?}
-use borrow.Author.Rules.{rules}
 use Rattle.seen.specs.Seen.{seen_of}
 use Rattle.seen.proofs.Bits.{next_seen, last_seen}
 use Rattle.seen.proofs.has_up_to.Goals as goal

@@ -1,6 +1,5 @@
 use mathlib.Core.Path.{ap}
 use Prim.Native.Nat.{ℕ, ◌+◌}
-use borrow.Author.Rules.{rules}
 use Rattle.seen.proofs.Bits.{one_bit, word_fits}
 use Rattle.seen.proofs.with_bit.Goals as goal
 

@@ -9,7 +9,6 @@ use Rattle.strips.specs.Strips.{Strip, strip}
 use Rattle.strips.specs.Answers.{drawn_by}
 use Rattle.strips.proofs.Strips.{room}
 use Rattle.strips.proofs.Calls.{lent, counts, holds, drawn_strip}
-use borrow.Author.Rules.{rules}
 use Rattle.strips.proofs.columns_of.Goals as goal
 use Rattle.strips.proofs.columns_of.Goals.{After-shared_slice_known-1}
 

@@ -1,5 +1,4 @@
 -- 1 to 8 and 20 by the opening, 9 and 10 by what is chosen, 11 and 13 by the numbers compared.
-use borrow.Author.Rules.{rules}
 use Rattle.strips.proofs.Refusals.{strip-block, strip-segment, strip_eleven, strip_thirteen, strip_none}
 use Rattle.strips.proofs.judged.Goals as goal
 

@@ -1,6 +1,5 @@
 -- Refused by its number, or drawn.
 use mathlib.Core.Path.{◌∙◌, sym}
-use borrow.Author.Rules.{rules}
 use Rattle.rules.specs.Rules.{opened}
 use lib.ListN.{length}
 use Rattle.strips.specs.Strips.{strip_of}

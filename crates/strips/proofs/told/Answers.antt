@@ -5,7 +5,6 @@ use lib.IntN.{ℤ, ◌-ℤ◌}
 use mir.Syntax.{w16, w64}
 use mir.Val.{SFits, to_z, of_z}
 use mir.ValLaws.{to_z-of_z}
-use borrow.Author.Rules.{rules}
 use Rattle.rules.proofs.Numbers.{below-index}
 use Rattle.fills.specs.Fills.{sample_at}
 use Rattle.fills.proofs.Sampling.{in_word}

@@ -3,7 +3,6 @@ use mathlib.Core.Path.{◌≡◌, sym, ◌∙◌, subst}
 use Prim.Native.Nat.{ℕ}
 use native.Mathlib.Omega.{arith}
 use lib.IntN.{ℤ}
-use borrow.Author.Rules.{rules}
 use Rattle.rules.proofs.Numbers.{below-index}
 use Rattle.fills.specs.Fills.{sample_at}
 use Rattle.fills.proofs.Sampling.{in_word}
@@ -31,11 +30,11 @@ started c =
 
 pub few-requires : goal.few-requires
 few-requires c = record {
-      holds = c.requires.holds;
-      a_le_b = (omega (arith, c.requires.a_lt_b), c.requires.a_lt_b.1);
-      seen = (started (goal.at.few-requires c).After-anew-t).0;
-      spanned = (started (goal.at.few-requires c).After-anew-t).1;
-    }
+  holds = c.requires.holds;
+  a_le_b = (omega (arith, c.requires.a_lt_b), c.requires.a_lt_b.1);
+  seen = (started (goal.at.few-requires c).After-anew-t).0;
+  spanned = (started (goal.at.few-requires c).After-anew-t).1;
+}
 
 -- what is ensured of a tally with the points of the column
 ended : (c : After-shared_slice_known-1) (t : Tally) → (let a = c.args in
@@ -48,22 +47,22 @@ ended c t (seen, spanned) =
 
 pub returns-then-b-a-lt8 : goal.returns-then-b-a-lt8
 returns-then-b-a-lt8 c = let r = ended (goal.at.returns-then-b-a-lt8 c).After-shared_slice_known-1 c.few.result (c.few.ensures.seen_2, c.few.ensures.spanned_2) in record {
-      least_value = r.0;
-      greatest_value = r.1;
-      seen_2 = r.2;
-    }
+  least_value = r.0;
+  greatest_value = r.1;
+  seen_2 = r.2;
+}
 
 pub many-requires : goal.many-requires
 many-requires c = record {
-      holds = c.requires.holds;
-      a_le_b = (omega (arith, c.requires.a_lt_b), c.requires.a_lt_b.1);
-      seen = (started (goal.at.many-requires c).After-anew-t).0;
-      spanned = (started (goal.at.many-requires c).After-anew-t).1;
-    }
+  holds = c.requires.holds;
+  a_le_b = (omega (arith, c.requires.a_lt_b), c.requires.a_lt_b.1);
+  seen = (started (goal.at.many-requires c).After-anew-t).0;
+  spanned = (started (goal.at.many-requires c).After-anew-t).1;
+}
 
 pub returns : goal.returns
 returns c = let r = ended (goal.at.returns c).After-shared_slice_known-1 c.many.result (c.many.ensures.seen_2, c.many.ensures.spanned_2) in record {
-      least_value = r.0;
-      greatest_value = r.1;
-      seen_2 = r.2;
-    }
+  least_value = r.0;
+  greatest_value = r.1;
+  seen_2 = r.2;
+}

@@ -8,7 +8,6 @@ use lib.Signed.{lt_z}
 use mir.Syntax.{w16}
 use mir.Val.{SFits, to_z, of_z}
 use mir.ValLaws.{to_z-of_z}
-use borrow.Author.Rules.{rules}
 use Rattle.columns.specs.Columns.{lesser, greater}
 use Rattle.tallies.proofs.join.Goals as goal
 

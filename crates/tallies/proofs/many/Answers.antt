@@ -5,7 +5,6 @@ use Prim.Native.Nat.{ℕ, ◌+◌, ◌-◌, ◌≤◌, ◌<◌}
 use native.Mathlib.Omega.{arith}
 use lib.Dec.{leb}
 use lib.IntN.{ℤ}
-use borrow.Author.Rules.{rules}
 use borrow.Author.Tests.{leb-true, leb-false}
 use Rattle.rules.proofs.Numbers.{below-index}
 use Rattle.fills.specs.Fills.{sample_at}
@@ -33,16 +32,16 @@ taken c = ends c.loop-i.i c.args.b c.end_of-e.result c.loop-i-test.true c.end_of
 
 pub measure-x-requires : goal.measure-x-requires
 measure-x-requires c = record {
-      holds = fewer c.requires.holds _ (taken (goal.at.measure-x-requires c).After-end_of-e).1;
-      a_lt_b = ((taken (goal.at.measure-x-requires c).After-end_of-e).0, (taken (goal.at.measure-x-requires c).After-end_of-e).2);
-    }
+  holds = fewer c.requires.holds _ (taken (goal.at.measure-x-requires c).After-end_of-e).1;
+  a_lt_b = ((taken (goal.at.measure-x-requires c).After-end_of-e).0, (taken (goal.at.measure-x-requires c).After-end_of-e).2);
+}
 
 pub marks_of-m-requires : goal.marks_of-m-requires
 marks_of-m-requires c = let t = taken (goal.at.marks_of-m-requires c).After-end_of-e in record {
-      holds = fewer c.requires.holds _ t.1;
-      a_lt_b = (t.0, t.2);
-      e_value = c.measure-x.ensures;
-    }
+  holds = fewer c.requires.holds _ t.1;
+  a_lt_b = (t.0, t.2);
+  e_value = c.measure-x.ensures;
+}
 
 pub join-t-requires : goal.join-t-requires
 join-t-requires c =

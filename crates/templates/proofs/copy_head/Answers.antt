@@ -8,7 +8,6 @@ use Rattle.rules.specs.Template.{template}
 use Rattle.rules.proofs.Template.{total-template}
 use Rattle.copies.specs.Copies.{turned_pieces}
 use Rattle.templates.proofs.Runs.{turned_plain}
-use borrow.Author.Rules.{rules}
 use Rattle.templates.proofs.copy_head.Goals as goal
 
 pub returns-then-same : goal.returns-then-same

@@ -1,11 +1,9 @@
 -- Each run follows the one before (`run_next`).
 use mathlib.Core.Path.{refl}
-use mathlib.Core.Logic.{inl, inr}
 use mathlib.Core.Bool.{false}
 use native.Mathlib.Omega.{arith}
 use Rattle.templates.specs.Templates.{run_widths}
 use Rattle.templates.proofs.Runs.{run-first, run_next}
-use borrow.Author.Rules.{rules}
 use Rattle.templates.proofs.turn_axes.Goals as goal
 
 pub returns : goal.returns

@@ -5,7 +5,6 @@ use native.Mathlib.Omega.{arith}
 use Rattle.rules.specs.Template.{template}
 use Rattle.templates.specs.Templates.{run_widths}
 use Rattle.templates.proofs.Runs.{pieces_next}
-use borrow.Author.Rules.{rules}
 use Rattle.templates.proofs.turn_head.Goals as goal
 
 pub returns : goal.returns

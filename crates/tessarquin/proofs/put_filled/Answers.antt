@@ -11,7 +11,6 @@ use Rattle.rules.proofs.Numbers.{below-index}
 use Rattle.tessarquin.specs.Calls.{value_bits}
 use Rattle.tessarquin.proofs.Writing.{number_then}
 use Rattle.tessarquin.proofs.Filling.{length-values, points_are}
-use borrow.Author.Rules.{rules}
 use Rattle.tessarquin.proofs.put_filled.Goals as goal
 use Rattle.tessarquin.proofs.put_filled.Goals.{After-shared_slice_known-1}
 

@@ -1,5 +1,4 @@
 -- The five numbers, as they are written.
-use borrow.Author.Rules.{rules}
 use Rattle.tessarquin.proofs.put_opened.Goals as goal
 
 pub returns : goal.returns

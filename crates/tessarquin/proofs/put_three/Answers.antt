@@ -5,7 +5,6 @@ use Prim.Native.Nat.{ℕ}
 use native.Mathlib.Omega.{arith}
 use Rattle.rules.specs.Numbers.{bytes, splice}
 use Rattle.tessarquin.proofs.Writing.{number_then}
-use borrow.Author.Rules.{rules}
 use Rattle.tessarquin.proofs.put_three.Goals as goal
 
 pub returns : goal.returns

@@ -5,7 +5,6 @@ use native.Mathlib.Omega.{arith}
 use Rattle.rules.specs.Numbers.{Bytes}
 use Rattle.rules.proofs.Numbers.{below-index}
 use Rattle.tessarquin.proofs.Filling as filling
-use borrow.Author.Rules.{rules}
 use Rattle.tessarquin.proofs.put_values.Goals as goal
 use Rattle.tessarquin.proofs.put_values.Goals.{After-shared_slice_known-1}
 

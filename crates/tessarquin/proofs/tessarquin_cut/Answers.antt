@@ -2,12 +2,6 @@
 use native.Mathlib.Omega.{arith}
 use Rattle.tessarquin.specs.Calls.{setup}
 use Rattle.tessarquin.proofs.Cutting.{without_room, cut-refused, cut_answered}
-use borrow.Author.Rules.{rules}
-use Rattle.tessarquin.proofs.tessarquin_cut.Reads as reads
-use Rattle.tessarquin.proofs.tessarquin_cut.Lts as lts
-use Rattle.cuts.proofs.cut.Reads as cut-reads
-use Rattle.tessarquin.proofs.put_pair.Reads as put-pair-reads
-use Rattle.tessarquin.proofs.without_room.Reads as without-room-reads
 use Rattle.tessarquin.proofs.tessarquin_cut.Goals as goal
 
 pub returns-then-answer-lt16 : goal.returns-then-answer-lt16

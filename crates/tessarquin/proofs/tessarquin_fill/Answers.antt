@@ -11,7 +11,6 @@ use Rattle.points.proofs.Walking.{place-number}
 use Rattle.tessarquin.specs.Calls.{fill_bytes, fill_number, fill_left}
 use Rattle.tessarquin.proofs.Slices.{own_refused, own_short, own_left}
 use Rattle.tessarquin.proofs.Filling.{length_fill, points_are}
-use borrow.Author.Rules.{rules}
 use Rattle.tessarquin.proofs.tessarquin_fill.Goals as goal
 use Rattle.tessarquin.proofs.tessarquin_fill.Goals.{After-place_of-place, After-shared_slice_known-1, Else-place-ne0}
 
@@ -51,10 +50,10 @@ returns-then-answer-place c =
 
 pub put_filled-requires : goal.put_filled-requires
 put_filled-requires c = record {
-      place_value = c.place_of-place.ensures;
-      segment_value = taken (goal.at.put_filled-requires c).Else-place-ne0;
-      points_in_bounds = omega (arith, c.if-answer-place.false);
-    }
+  place_value = c.place_of-place.ensures;
+  segment_value = taken (goal.at.put_filled-requires c).Else-place-ne0;
+  points_in_bounds = omega (arith, c.if-answer-place.false);
+}
 
 pub returns : goal.returns
 unfolding fill_number fill_left

@@ -9,11 +9,6 @@ use Rattle.block.specs.declared.Opened.{Opened}
 use Rattle.block.proofs.Answers.{number_is, accepted_as_lem}
 use Rattle.tessarquin.specs.Calls.{open_bytes, open_number, open_left}
 use Rattle.tessarquin.proofs.Slices.{open_length, own_refused, own_short, own_left}
-use borrow.Author.Rules.{rules}
-use Rattle.tessarquin.proofs.tessarquin_open.Reads as reads
-use Rattle.tessarquin.proofs.tessarquin_open.Lts as lts
-use Rattle.block.proofs.open.Reads as open-reads
-use Rattle.tessarquin.proofs.put_opened.Reads as put-opened-reads
 use Rattle.tessarquin.proofs.tessarquin_open.Goals as goal
 use Rattle.tessarquin.proofs.tessarquin_open.Goals.{Else-o-ne0}
 

@@ -1,10 +1,6 @@
 -- The number of the cut, whose output has no bytes.
 use Rattle.cuts.specs.Cuts.{setup_as}
 use Rattle.cuts.proofs.Calls as calls
-use borrow.Author.Rules.{rules}
-use Rattle.tessarquin.proofs.without_room.Reads as reads
-use Rattle.tessarquin.proofs.without_room.Lts as lts
-use Rattle.cuts.proofs.cut.Reads as cut-reads
 use Rattle.tessarquin.proofs.without_room.Goals as goal
 
 pub returns : goal.returns

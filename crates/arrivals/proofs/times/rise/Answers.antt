@@ -1,11 +1,9 @@
 -- Each turn passes a window that rises, or ends at one that does not.
 use mathlib.Core.Path.{◌≡◌, refl, sym, ◌∙◌}
-use Prim.Native.Nat.{◌+◌, ◌-◌, ◌≤◌}
+use Prim.Native.Nat.{◌-◌}
 use native.Mathlib.Omega.{arith}
-use lib.ListN.{length, drop, length-map}
+use lib.ListN.{length, length-map}
 use borrow.Author.Tests.{not-true, not-false}
-use borrow.Author.Rules.{rules}
-use Rattle.rules.specs.Rules.{ascending}
 use Rattle.joining.specs.Join.{parts_in, by_index}
 use Rattle.joining.proofs.Index.{length-by_index}
 use Rattle.arrivals.specs.Arrivals.{part_time, times_at}

@@ -1,7 +1,6 @@
 -- The times of the window, gathered by index and compared.
 use mathlib.Core.Path.{ap, ◌∙◌}
 use native.Mathlib.Omega.{arith}
-use borrow.Author.Rules.{rules}
 use Rattle.rules.specs.Rules.{ascending}
 use Rattle.arrivals.proofs.Windows.{window_finite, window_times}
 use Rattle.arrivals.proofs.times.rise_within.Goals as goal

@@ -1,6 +1,5 @@
 -- Field by field.
 use Prim.Native.Nat.{◌/◌}
-use borrow.Author.Rules.{rules}
 use Rattle.block.proofs.opening.accepted.Goals as goal
 
 pub returns : goal.returns

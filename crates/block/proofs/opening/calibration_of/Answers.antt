@@ -1,5 +1,4 @@
 -- Four floats of finite patterns.
-use borrow.Author.Rules.{rules}
 use Rattle.block.proofs.opening.calibration_of.Goals as goal
 
 pub returns : goal.returns

@@ -3,7 +3,6 @@ use native.Mathlib.Omega.{arith}
 use Prim.Native.Nat.{◌+◌}
 use lib.ListN.{get_or}
 use Rattle.block.specs.Steps.{fields_at}
-use borrow.Author.Rules.{rules}
 use Rattle.block.proofs.opening.fields_of.Goals as goal
 
 pub overflow_cast-order : goal.overflow_cast-order

@@ -10,7 +10,6 @@ use Rattle.frames.specs.Headers.{framed_as}
 use Rattle.frames.proofs.Headers.{framed_is, framed-says, framed-small}
 use Rattle.block.specs.Steps.{Framed}
 use Rattle.block.proofs.Ladder.{passes, fails, room2, rung1, rung2, refused_is, lengths_fit, finites, accepted_is}
-use borrow.Author.Rules.{rules}
 use Rattle.block.proofs.opening.open.Goals as goal
 use Rattle.block.proofs.opening.open.Goals.{After-shared_slice_known-1, Else-not-header, Else-not-is_sized, Else-number-ne0}
 
@@ -54,9 +53,9 @@ fields_of-fields-requires c = room2 _ _ _ (sized (goal.at.fields_of-fields-requi
 
 pub number_of-number-requires : goal.number_of-number-requires
 number_of-number-requires c = record {
-      framed = sized (goal.at.number_of-number-requires c).Else-not-is_sized;
-      fields_value = c.fields_of-fields.ensures;
-    }
+  framed = sized (goal.at.number_of-number-requires c).Else-not-is_sized;
+  fields_value = c.fields_of-fields.ensures;
+}
 
 pub returns-then-number-ne0 : goal.returns-then-number-ne0
 returns-then-number-ne0 c =

@@ -3,13 +3,11 @@ use native.Mathlib.Omega.{arith}
 use mathlib.Core.Path.{◌≡◌, sym, ap, ◌∙◌}
 use mathlib.Core.Bool.{not, ◌&&◌}
 use mathlib.Core.List.{map}
-use Prim.Native.Nat.{ℕ, ◌+◌, ◌-◌, ◌≤◌}
+use Prim.Native.Nat.{ℕ, ◌+◌, ◌-◌}
 use lib.Ieee.{Float, binary64, of_bits, nan_bits, lt}
 use Rattle.rules.specs.Numbers.{up_from}
-use Rattle.rules.specs.Rules.{ascending}
 use Rattle.block.specs.Opened.{time_by, times_by}
 use Rattle.block.proofs.Times.{after, after_none, time_more, time-end}
-use borrow.Author.Rules.{rules}
 use Rattle.block.proofs.tables.ascend.Goals as goal
 
 pub float_from_bits-last : goal.float_from_bits-last

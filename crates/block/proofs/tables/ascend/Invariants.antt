@@ -1,15 +1,12 @@
 -- Entry by entry: what is tested so far, the time before, and what is left.
-use native.Mathlib.Omega.{arith}
-use mathlib.Core.Path.{◌≡◌, sym, ap, ◌∙◌}
-use mathlib.Core.Bool.{not, ◌&&◌}
+use mathlib.Core.Path.{◌≡◌}
+use mathlib.Core.Bool.{◌&&◌}
 use mathlib.Core.List.{map}
-use Prim.Native.Nat.{ℕ, ◌+◌, ◌-◌, ◌≤◌}
-use lib.Ieee.{Float, binary64, of_bits, nan_bits, lt}
+use Prim.Native.Nat.{◌-◌, ◌≤◌}
 use Rattle.rules.specs.Numbers.{up_from}
 use Rattle.rules.specs.Rules.{ascending}
 use Rattle.block.specs.Opened.{time_by, times_by}
-use Rattle.block.proofs.Times.{after, after_none, time_more, time-end}
-use borrow.Author.Rules.{rules}
+use Rattle.block.proofs.Times.{after}
 use Rattle.block.proofs.tables.ascend.Given as goal
 
 abbrev pub invariant-loop-j : goal.invariant-loop-j

@@ -1,13 +1,10 @@
 -- Counted down: what is tested so far, and what is left.
-use native.Mathlib.Omega.{arith}
-use mathlib.Core.Path.{◌≡◌, refl}
+use mathlib.Core.Path.{◌≡◌}
 use mathlib.Core.Bool.{◌&&◌}
 use Prim.Native.Nat.{◌+◌, ◌*◌, ◌≤◌}
 use lib.ListN.{length, drop}
 use Rattle.rules.specs.Numbers.{numbers}
 use Rattle.rules.specs.Rules.{every?, finite64}
-use Rattle.block.proofs.Loops.{doubles_more, doubles_end}
-use borrow.Author.Rules.{rules}
 use Rattle.block.proofs.tables.finite_doubles.Given as goal
 
 abbrev pub invariant-loop-left : goal.invariant-loop-left

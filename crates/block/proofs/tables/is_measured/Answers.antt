@@ -3,7 +3,6 @@ use mathlib.Core.List.{[], ◌∷◌}
 use Rattle.rules.specs.Rules.{every?, finite32, finite64}
 use Rattle.numbers.proofs.Bools.{joined-all}
 use Rattle.block.specs.Opened.{table_at}
-use borrow.Author.Rules.{rules}
 use Rattle.block.proofs.tables.is_measured.Goals as goal
 
 pub returns : goal.returns

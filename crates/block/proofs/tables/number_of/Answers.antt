@@ -2,7 +2,6 @@
 use mathlib.Core.Path.{sym, ◌∙◌}
 use Rattle.block.proofs.Ladder.{passes, fails}
 use Rattle.block.proofs.Times.{tables_broken, tables_by_entries}
-use borrow.Author.Rules.{rules}
 use Rattle.block.proofs.tables.number_of.Goals as goal
 
 pub returns-then-not-is_measured : goal.returns-then-not-is_measured

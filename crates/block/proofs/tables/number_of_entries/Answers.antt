@@ -7,7 +7,6 @@ use Rattle.rules.specs.Rules.{first}
 use Rattle.block.specs.Opened.{entry_rules}
 use Rattle.block.proofs.Ladder.{passes, fails}
 use Rattle.block.proofs.Times.{time-finite}
-use borrow.Author.Rules.{rules}
 use Rattle.block.proofs.tables.number_of_entries.Goals as goal
 
 pub returns-then-count-eq0 : goal.returns-then-count-eq0

@@ -3,7 +3,6 @@ use mathlib.Core.Path.{ap, ◌∙◌}
 use Prim.Native.Nat.{ℕ}
 use Rattle.rules.specs.Rules.{first}
 use Rattle.block.specs.Opened.{entry_rules}
-use borrow.Author.Rules.{rules}
 use Rattle.block.proofs.tables.rise.Goals as goal
 
 pub returns-then-order-eq0 : goal.returns-then-order-eq0

@@ -2,13 +2,10 @@
 use native.Mathlib.Omega.{arith}
 use mathlib.Core.Path.{◌≡◌, subst}
 use mathlib.Core.Bool.{false≢true}
-use Prim.Native.Nat.{ℕ, ◌-◌, ◌≤◌}
+use Prim.Native.Nat.{ℕ, ◌-◌}
 use borrow.Author.Tests.{ltb-true}
-use Rattle.rules.specs.Rules.{first}
-use Rattle.block.specs.Opened.{entry_rules}
 use Rattle.block.proofs.Ladder.{passes}
 use Rattle.block.proofs.Times.{Rising, rising_more, rising_end, rising_all}
-use borrow.Author.Rules.{rules}
 use Rattle.block.proofs.tables.rise_by.Goals as goal
 
 pub loop-j-init : goal.loop-j-init

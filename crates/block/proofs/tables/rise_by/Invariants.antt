@@ -1,14 +1,9 @@
 -- Entry by entry: the others have only to rise from here.
-use native.Mathlib.Omega.{arith}
-use mathlib.Core.Path.{◌≡◌, subst}
-use mathlib.Core.Bool.{false≢true}
-use Prim.Native.Nat.{ℕ, ◌-◌, ◌≤◌}
-use borrow.Author.Tests.{ltb-true}
+use mathlib.Core.Path.{◌≡◌}
+use Prim.Native.Nat.{◌-◌, ◌≤◌}
 use Rattle.rules.specs.Rules.{first}
 use Rattle.block.specs.Opened.{entry_rules}
-use Rattle.block.proofs.Ladder.{passes}
-use Rattle.block.proofs.Times.{Rising, rising_more, rising_end, rising_all}
-use borrow.Author.Rules.{rules}
+use Rattle.block.proofs.Times.{Rising}
 use Rattle.block.proofs.tables.rise_by.Given as goal
 
 abbrev pub invariant-loop-j : goal.invariant-loop-j

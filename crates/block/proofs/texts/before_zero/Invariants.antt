@@ -1,13 +1,8 @@
 -- Each byte passed is one more before the first zero.
-use borrow.Author.Rules.{rules}
-use native.Mathlib.Omega.{arith}
-use native.Mathlib.Nat.{add-zero, sub-zero}
-use Prim.Native.Nat.{suc, ◌<◌}
-use Prim.Native.Nat.{ℕ, ◌+◌, ◌≤◌, ◌-◌}
-use mathlib.Core.Path.{◌≡◌, ap}
+use Prim.Native.Nat.{◌+◌, ◌≤◌, ◌-◌}
+use mathlib.Core.Path.{◌≡◌}
 use lib.ListN.{length, take, drop}
 use Rattle.block.specs.Texts.{up_to_zero}
-use Rattle.block.proofs.Parts.{step_zero, step_more}
 use Rattle.block.proofs.texts.before_zero.Given as goal
 
 -- what is left to look at, and what has been passed, are the whole

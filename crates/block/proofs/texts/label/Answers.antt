@@ -5,7 +5,6 @@ use native.Mathlib.Omega.{arith}
 use Rattle.rules.specs.Rules.{refusal}
 use Rattle.block.proofs.Answers.{number_is}
 use Rattle.block.proofs.Parts.{no_label, no_label_place, label_none, label_some}
-use borrow.Author.Rules.{rules}
 use Rattle.block.proofs.texts.label.Goals as goal
 use Rattle.block.proofs.texts.label.Goals.{Else-k-ne0}
 

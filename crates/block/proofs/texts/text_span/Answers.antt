@@ -3,7 +3,6 @@ use native.Mathlib.Omega.{arith}
 use Prim.Native.Nat.{◌+◌, ◌≤◌}
 use lib.ListN.{length, get_or}
 use Rattle.block.proofs.Parts.{no_text, text-fits, text_at}
-use borrow.Author.Rules.{rules}
 use Rattle.block.proofs.texts.text_span.Goals as goal
 use Rattle.block.proofs.texts.text_span.Goals.{Else-n-ne0}
 

@@ -4,7 +4,6 @@ use mathlib.Core.List.{List}
 use Prim.Native.Nat.{ℕ}
 use lib.ListN.{length}
 use Rattle.compared.specs.Tested.{copied}
-use borrow.Author.Rules.{rules}
 use Rattle.compared.proofs.texts.compared_label.Goals as goal
 
 pub returns : goal.returns

@@ -7,14 +7,13 @@ use lib.Seq.{take-length}
 use Rattle.rules.specs.Numbers.{splice}
 use Rattle.fills.proofs.Writes.{over-start}
 use Rattle.compared.proofs.Tested.{copied-fits, copied_short}
-use borrow.Author.Rules.{rules}
 use Rattle.compared.proofs.texts.copy_part.Goals as goal
 
 pub returns-then-out-n : goal.returns-then-out-n
 returns-then-out-n c = let a = c.args in record {
-      value = refl;
-      out_after = copied_short a.part.now a.out.now c.if-out-n.true;
-    }
+  value = refl;
+  out_after = copied_short a.part.now a.out.now c.if-out-n.true;
+}
 
 pub returns : goal.returns
 returns c =

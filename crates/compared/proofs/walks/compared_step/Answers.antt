@@ -8,7 +8,6 @@ use Rattle.points.specs.declared.walk.Step.{Step}
 use Rattle.points.specs.Walks.{values_of, marks_of}
 use Rattle.compared.specs.Tested.{copied}
 use Rattle.compared.proofs.Tested.{copied-fits}
-use borrow.Author.Rules.{rules}
 use Rattle.compared.proofs.walks.compared_step.Goals as goal
 
 pub returns-in-Point : goal.returns-in-Point

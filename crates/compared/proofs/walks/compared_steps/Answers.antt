@@ -10,7 +10,6 @@ use Rattle.rules.specs.Points.{value, time}
 use Rattle.compared.specs.Tested.{mark_byte, steps_number, values_left, times_left, marks_left}
 use Rattle.measured.proofs.Walked.{number-refused, walks, points_are, number_short, number_none}
 use Rattle.compared.proofs.Tested.{steps_refused, steps_full}
-use borrow.Author.Rules.{rules}
 use Rattle.compared.proofs.walks.compared_steps.Goals as goal
 use Rattle.compared.proofs.walks.compared_steps.Goals.{Else-place-ne0, Start}
 

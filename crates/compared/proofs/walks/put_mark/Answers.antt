@@ -8,7 +8,6 @@ use lib.Seq.{sets-eq}
 use Rattle.rules.specs.Points.{mark_number}
 use Rattle.rules.proofs.Marks.{mark_le}
 use Rattle.compared.proofs.Tested.{copied-fits, copied_short}
-use borrow.Author.Rules.{rules}
 use Rattle.compared.proofs.walks.put_mark.Goals as goal
 
 pub returns-then-out-lt1 : goal.returns-then-out-lt1

@@ -1,7 +1,7 @@
 -- Each turn writes the value, the time and the mark of the next point; the walk is done after the last.
 use mathlib.Core.Path.{◌≡◌, refl, sym, ap, ◌∙◌}
 use mathlib.Core.List.{map}
-use Prim.Native.Nat.{◌-◌, ◌≤◌, ◌<◌}
+use Prim.Native.Nat.{◌-◌, ◌<◌}
 use native.Mathlib.Numerals.{add-one}
 use native.Mathlib.Omega.{arith}
 use lib.ListN.{length, length-set}
@@ -11,12 +11,10 @@ use Rattle.rules.specs.Rules.{opened}
 use Rattle.rules.specs.Points.{value, time, mark, mark_number}
 use Rattle.rules.proofs.Numbers.{below-index}
 use Rattle.rules.proofs.Marks.{mark_le}
-use Rattle.fills.specs.Fills.{over}
 use Rattle.fills.proofs.Writes.{over_none, map-one}
 use Rattle.points.specs.Walks.{after_of, place_after}
 use Rattle.compared.specs.Tested.{mark_byte}
 use Rattle.measured.proofs.Walked.{all-written, points_are, handed, stopped}
-use borrow.Author.Rules.{rules}
 use Rattle.compared.proofs.walks.put_steps.Goals as goal
 use Rattle.compared.proofs.walks.put_steps.Goals.{After-shared_slice_known-1, In-Point}
 

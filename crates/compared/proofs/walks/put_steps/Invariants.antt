@@ -1,22 +1,15 @@
 -- Each turn writes the value, the time and the mark of the next point; the walk is done after the last.
-use mathlib.Core.Path.{◌≡◌, refl, sym, ap, ◌∙◌}
+use mathlib.Core.Path.{◌≡◌}
 use mathlib.Core.List.{map}
-use Prim.Native.Nat.{◌-◌, ◌≤◌, ◌<◌}
-use native.Mathlib.Numerals.{add-one}
-use native.Mathlib.Omega.{arith}
-use lib.ListN.{length, length-set}
-use Rattle.rules.specs.Numbers.{Bytes, up_from}
-use Rattle.rules.specs.Wave.{Wave, points}
+use Prim.Native.Nat.{◌-◌, ◌≤◌}
+use lib.ListN.{length}
+use Rattle.rules.specs.Numbers.{up_from}
+use Rattle.rules.specs.Wave.{points}
 use Rattle.rules.specs.Rules.{opened}
-use Rattle.rules.specs.Points.{value, time, mark, mark_number}
-use Rattle.rules.proofs.Numbers.{below-index}
-use Rattle.rules.proofs.Marks.{mark_le}
+use Rattle.rules.specs.Points.{value, time, mark}
 use Rattle.fills.specs.Fills.{over}
-use Rattle.fills.proofs.Writes.{over_none, map-one}
-use Rattle.points.specs.Walks.{after_of, place_after}
+use Rattle.points.specs.Walks.{place_after}
 use Rattle.compared.specs.Tested.{mark_byte}
-use Rattle.measured.proofs.Walked.{all-written, points_are, handed, stopped}
-use borrow.Author.Rules.{rules}
 use Rattle.compared.proofs.walks.put_steps.Given as goal
 
 abbrev pub invariant-loop-value : goal.invariant-loop-value

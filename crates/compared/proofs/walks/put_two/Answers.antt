@@ -4,7 +4,6 @@ use mathlib.Core.List.{List, [], ◌∷◌}
 use lib.Ieee.{Float}
 use lib.Seq.{sets-eq}
 use Rattle.compared.proofs.Tested.{copied-fits, copied_short}
-use borrow.Author.Rules.{rules}
 use Rattle.compared.proofs.walks.put_two.Goals as goal
 
 pub returns-then-out-lt2 : goal.returns-then-out-lt2

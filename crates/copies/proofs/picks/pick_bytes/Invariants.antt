@@ -1,17 +1,10 @@
 -- The loop gathers one byte more at each turn.
-use mathlib.Core.Path.{◌≡◌, refl, ap, ◌∙◌}
+use mathlib.Core.Path.{◌≡◌}
 use mathlib.Core.List.{[], ◌∷◌}
 use Prim.Native.Nat.{◌+◌, ◌*◌, ◌-◌, ◌≤◌}
-use native.Mathlib.Nat.{mul-one}
-use native.Mathlib.Omega.{arith}
-use lib.ListN.{length, get_or, length-set}
-use lib.Seq.{sets-eq}
+use lib.ListN.{length, get_or}
 use Rattle.rules.specs.Numbers.{splice}
 use Rattle.copies.specs.Copies.{gather}
-use Rattle.rules.proofs.Splices.{splice_none}
-use Rattle.copies.proofs.Laws.{gather-step}
-use Rattle.copies.proofs.Items.{items-bytes}
-use borrow.Author.Rules.{rules}
 use Rattle.copies.proofs.picks.pick_bytes.Given as goal
 
 abbrev pub invariant-loop-i : goal.invariant-loop-i

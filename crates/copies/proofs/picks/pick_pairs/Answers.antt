@@ -3,8 +3,7 @@ use mathlib.Core.Path.{◌≡◌, refl, ◌∙◌}
 use Prim.Native.Nat.{◌+◌, ◌*◌, ◌-◌, ◌≤◌}
 use native.Mathlib.Omega.{arith}
 use lib.ListN.{length}
-use Rattle.rules.specs.Numbers.{splice}
-use Rattle.copies.specs.Copies.{in_order, part, items}
+use Rattle.copies.specs.Copies.{in_order, part}
 use Rattle.numbers.proofs.Reading.{part_window}
 use Rattle.rules.proofs.Splices.{splice_none}
 use Rattle.copies.proofs.Laws.{gather-step, length_turned}

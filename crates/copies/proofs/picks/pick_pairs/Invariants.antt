@@ -1,14 +1,9 @@
 -- The loop gathers one pair more at each turn.
-use mathlib.Core.Path.{◌≡◌, refl, ◌∙◌}
-use Prim.Native.Nat.{◌+◌, ◌*◌, ◌-◌, ◌≤◌}
-use native.Mathlib.Omega.{arith}
+use mathlib.Core.Path.{◌≡◌}
+use Prim.Native.Nat.{◌-◌, ◌≤◌}
 use lib.ListN.{length}
 use Rattle.rules.specs.Numbers.{splice}
-use Rattle.copies.specs.Copies.{in_order, part, items}
-use Rattle.numbers.proofs.Reading.{part_window}
-use Rattle.rules.proofs.Splices.{splice_none}
-use Rattle.copies.proofs.Laws.{gather-step, length_turned}
-use borrow.Author.Rules.{rules}
+use Rattle.copies.specs.Copies.{items}
 use Rattle.copies.proofs.picks.pick_pairs.Given as goal
 
 abbrev pub invariant-loop-i : goal.invariant-loop-i

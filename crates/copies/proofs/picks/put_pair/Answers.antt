@@ -2,9 +2,7 @@
 use mathlib.Core.List.{[], ◌∷◌}
 use native.Mathlib.Numerals.{add-one}
 use native.Mathlib.Omega.{arith}
-use lib.ListN.{length-set}
 use lib.Seq.{sets-eq}
-use borrow.Author.Rules.{rules}
 use Rattle.copies.proofs.picks.put_pair.Goals as goal
 
 pub returns-then-same : goal.returns-then-same

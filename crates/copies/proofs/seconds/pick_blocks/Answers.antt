@@ -1,11 +1,7 @@
 -- Each turn writes the seconds of a hundred and twenty-eight pairs more (`seconds_more`).
 use mathlib.Core.Path.{◌≡◌, refl, ◌∙◌}
-use mathlib.Core.Bool.{true}
-use Prim.Native.Nat.{◌+◌, ◌*◌, ◌-◌, ◌≤◌}
+use Prim.Native.Nat.{◌+◌, ◌*◌, ◌-◌}
 use native.Mathlib.Omega.{arith}
-use lib.ListN.{length}
-use Rattle.rules.specs.Numbers.{splice}
-use Rattle.copies.specs.Copies.{items}
 use Rattle.rules.proofs.Splices.{splice_none}
 use Rattle.copies.proofs.Items.{seconds_more}
 use borrow.Author.Rules.{rules}

@@ -1,14 +1,11 @@
 -- Each turn writes the seconds of a hundred and twenty-eight pairs more (`seconds_more`).
-use mathlib.Core.Path.{◌≡◌, refl, ◌∙◌}
+use mathlib.Core.Path.{◌≡◌}
 use mathlib.Core.Bool.{true}
 use Prim.Native.Nat.{◌+◌, ◌*◌, ◌-◌, ◌≤◌}
-use native.Mathlib.Omega.{arith}
 use lib.ListN.{length}
 use Rattle.rules.specs.Numbers.{splice}
 use Rattle.copies.specs.Copies.{items}
-use Rattle.rules.proofs.Splices.{splice_none}
 use Rattle.copies.proofs.Items.{seconds_more}
-use borrow.Author.Rules.{rules}
 use Rattle.copies.proofs.seconds.pick_blocks.Given as goal
 
 abbrev pub invariant-loop-i : goal.invariant-loop-i

@@ -1,17 +1,10 @@
 -- The loop gathers one second byte more at each turn.
-use mathlib.Core.Path.{◌≡◌, refl, ap, ◌∙◌}
+use mathlib.Core.Path.{◌≡◌}
 use mathlib.Core.List.{[], ◌∷◌}
-use Prim.Native.Nat.{ℕ, ◌+◌, ◌*◌, ◌-◌, ◌/◌, ◌≤◌}
-use native.Mathlib.Nat.{mul-one}
-use native.Mathlib.Omega.{arith}
-use lib.ListN.{length, get_or, length-set}
-use lib.Seq.{sets-eq}
+use Prim.Native.Nat.{◌+◌, ◌*◌, ◌-◌, ◌≤◌}
+use lib.ListN.{length, get_or}
 use Rattle.rules.specs.Numbers.{splice}
 use Rattle.copies.specs.Copies.{gather}
-use Rattle.rules.proofs.Splices.{splice_none}
-use Rattle.copies.proofs.Laws.{gather-step}
-use Rattle.copies.proofs.Items.{items-bytes, second_of}
-use borrow.Author.Rules.{rules}
 use Rattle.copies.proofs.seconds.pick_run.Given as goal
 
 abbrev pub invariant-loop-i : goal.invariant-loop-i

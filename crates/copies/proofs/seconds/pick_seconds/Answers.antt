@@ -3,7 +3,6 @@ use mathlib.Core.Path.{◌≡◌, ◌∙◌}
 use Prim.Native.Nat.{ℕ, ◌+◌, ◌*◌, ◌/◌, ◌%◌}
 use native.Mathlib.Omega.{arith}
 use Rattle.copies.proofs.Items.{seconds_more}
-use borrow.Author.Rules.{rules}
 use Rattle.copies.proofs.seconds.pick_seconds.Goals as goal
 
 pub returns : goal.returns

@@ -2,9 +2,7 @@
 use mathlib.Core.List.{[], ◌∷◌}
 use native.Mathlib.Numerals.{add-one, add-two, add-three, add-four, add_five, add_six, add_seven}
 use native.Mathlib.Omega.{arith}
-use lib.ListN.{length-set}
 use lib.Seq.{sets-eq}
-use borrow.Author.Rules.{rules}
 use Rattle.copies.proofs.turns.put_four.Goals as goal
 
 pub returns : goal.returns

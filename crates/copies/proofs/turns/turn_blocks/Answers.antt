@@ -1,10 +1,8 @@
 -- Each turn writes eight items more (`items_then`).
 use mathlib.Core.Path.{◌≡◌, refl, ◌∙◌}
 use mathlib.Core.Bool.{false}
-use Prim.Native.Nat.{◌+◌, ◌*◌, ◌-◌, ◌≤◌}
+use Prim.Native.Nat.{◌+◌, ◌*◌, ◌-◌}
 use native.Mathlib.Omega.{arith}
-use lib.ListN.{length}
-use Rattle.rules.specs.Numbers.{splice}
 use Rattle.copies.specs.Copies.{items}
 use Rattle.rules.proofs.Splices.{splice_none}
 use Rattle.copies.proofs.Items.{items_then}

@@ -1,14 +1,11 @@
 -- Each turn writes eight items more (`items_then`).
-use mathlib.Core.Path.{◌≡◌, refl, ◌∙◌}
+use mathlib.Core.Path.{◌≡◌}
 use mathlib.Core.Bool.{false}
-use Prim.Native.Nat.{◌+◌, ◌*◌, ◌-◌, ◌≤◌}
-use native.Mathlib.Omega.{arith}
+use Prim.Native.Nat.{◌*◌, ◌-◌, ◌≤◌}
 use lib.ListN.{length}
 use Rattle.rules.specs.Numbers.{splice}
 use Rattle.copies.specs.Copies.{items}
-use Rattle.rules.proofs.Splices.{splice_none}
 use Rattle.copies.proofs.Items.{items_then}
-use borrow.Author.Rules.{rules}
 use Rattle.copies.proofs.turns.turn_blocks.Given as goal
 
 abbrev pub invariant-loop-i : goal.invariant-loop-i

@@ -4,7 +4,6 @@ use native.Mathlib.Omega.{arith}
 use Rattle.rules.specs.Numbers.{splice}
 use Rattle.copies.proofs.Laws.{then}
 use Rattle.copies.proofs.Items.{eight_turned}
-use borrow.Author.Rules.{rules}
 use Rattle.copies.proofs.turns.turn_eight.Goals as goal
 
 pub returns : goal.returns

@@ -7,7 +7,6 @@ use native.Mathlib.Omega.{arith}
 use Rattle.rules.specs.Numbers.{splice}
 use Rattle.copies.specs.Copies.{items}
 use Rattle.copies.proofs.Items.{items-single, last_width}
-use borrow.Author.Rules.{rules}
 use Rattle.copies.proofs.turns.turn_items.Goals as goal
 use Rattle.copies.proofs.turns.turn_items.Goals.{Else-width-eq4}
 

@@ -4,7 +4,6 @@ use mathlib.Core.Bool.{false}
 use Prim.Native.Nat.{ℕ, ◌+◌, ◌*◌, ◌/◌, ◌%◌}
 use native.Mathlib.Omega.{arith}
 use Rattle.copies.proofs.Items.{items_then}
-use borrow.Author.Rules.{rules}
 use Rattle.copies.proofs.turns.turn_pairs.Goals as goal
 
 pub returns : goal.returns

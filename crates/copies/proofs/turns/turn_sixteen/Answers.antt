@@ -3,7 +3,6 @@ use mathlib.Core.Path.{◌∙◌}
 use mathlib.Core.Bool.{false}
 use native.Mathlib.Omega.{arith}
 use Rattle.copies.proofs.Items.{items_then}
-use borrow.Author.Rules.{rules}
 use Rattle.copies.proofs.turns.turn_sixteen.Goals as goal
 
 pub returns : goal.returns

@@ -1,7 +1,7 @@
 -- Each turn looks at the next sample.
 use mathlib.Core.Path.{◌≡◌, refl, ap, ap₂, ◌∙◌}
 use mathlib.Core.Bool.{Bool, ◌||◌}
-use Prim.Native.Nat.{ℕ, ◌-◌, ◌≤◌}
+use Prim.Native.Nat.{ℕ, ◌-◌}
 use native.Mathlib.Omega.{arith}
 use lib.IntN.{ℤ, pos}
 use lib.ListN.{length, get_or, take}
@@ -9,7 +9,6 @@ use lib.Seq.{take-length}
 use mir.Syntax.{w16}
 use mir.Val.{of_z}
 use mir.ValLaws.{to_z-of_z}
-use borrow.Author.Rules.{rules}
 use Rattle.levels.specs.Levels.{between}
 use Rattle.crossings.specs.Answers.{some?}
 use Rattle.crossings.proofs.Scans.{some_next, bits_between}

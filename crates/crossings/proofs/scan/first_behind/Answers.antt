@@ -1,13 +1,12 @@
 -- Each turn looks at the next sample; none before it stands from low to high.
 use mathlib.Core.Path.{◌≡◌, sym, ap, ◌∙◌}
 use mathlib.Core.Bool.{false}
-use Prim.Native.Nat.{ℕ, ◌-◌, ◌≤◌, ◌<◌}
+use Prim.Native.Nat.{ℕ, ◌-◌}
 use native.Mathlib.Omega.{arith}
 use lib.IntN.{ℤ}
 use mir.Syntax.{w16}
 use mir.Val.{to_z, of_z}
 use mir.ValLaws.{to_z-of_z}
-use borrow.Author.Rules.{rules}
 use Rattle.fills.specs.Fills.{sample_at}
 use Rattle.fills.proofs.Sampling.{fewer}
 use Rattle.fills.proofs.Writes.{all_next}

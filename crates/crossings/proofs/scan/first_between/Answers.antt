@@ -13,10 +13,10 @@ use Rattle.crossings.proofs.scan.first_between.Goals as goal
 
 pub first_behind-requires : goal.first_behind-requires
 first_behind-requires c = record {
-      holds = search rules;
-      done_le_count = c.passed-done.ensures.upper_bound;
-      by_index = c.passed-done.ensures.by_index;
-    }
+  holds = search rules;
+  done_le_count = c.passed-done.ensures.upper_bound;
+  by_index = c.passed-done.ensures.by_index;
+}
 
 pub returns : goal.returns
 returns c =

@@ -25,9 +25,9 @@ loop-i-init c = (search rules, refl, λ j h. absurd (omega arith))
 
 pub read_samples-requires : goal.read_samples-requires
 read_samples-requires c = record {
-      holds = fewer c.requires _ (omega arith);
-      samples_len = c.loop-i.invariant.1;
-    }
+  holds = fewer c.requires _ (omega arith);
+  samples_len = c.loop-i.invariant.1;
+}
 
 pub any_between-requires : goal.any_between-requires
 any_between-requires c =
@@ -73,7 +73,7 @@ loop-i-preserved c =
 
 pub returns : goal.returns
 returns c = let r = so_far (goal.at.returns c).At-loop-i in record {
-      upper_bound = r.0;
-      by_index = r.1;
-      result_value = λ h. absurd (omega arith);
-    }
+  upper_bound = r.0;
+  by_index = r.1;
+  result_value = λ h. absurd (omega arith);
+}

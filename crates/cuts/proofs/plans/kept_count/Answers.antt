@@ -2,7 +2,6 @@
 use native.Mathlib.Omega.{arith}
 use Rattle.cuts.specs.Cuts.{setup_as}
 use Rattle.cuts.proofs.Asking.{count-all, count_few, count_more}
-use borrow.Author.Rules.{rules}
 use Rattle.cuts.proofs.plans.kept_count.Goals as goal
 
 pub returns-then-most-eq0 : goal.returns-then-most-eq0

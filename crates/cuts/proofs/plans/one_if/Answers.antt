@@ -1,6 +1,5 @@
 -- By cases of n.
 use Rattle.cuts.proofs.Asking.{one-some}
-use borrow.Author.Rules.{rules}
 use Rattle.cuts.proofs.plans.one_if.Goals as goal
 
 pub returns-else-n-eq0 : goal.returns-else-n-eq0

@@ -1,6 +1,5 @@
 -- By cases of a.
 use Rattle.rules.proofs.Tests.{or_some}
-use borrow.Author.Rules.{rules}
 use Rattle.cuts.proofs.plans.or_else.Goals as goal
 
 pub returns-else-a-eq0 : goal.returns-else-a-eq0

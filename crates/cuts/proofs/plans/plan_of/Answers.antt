@@ -7,7 +7,6 @@ use lib.ListN.{get_or}
 use Rattle.cuts.specs.Cuts.{setup_as}
 use Rattle.cuts.specs.Plans.{only_if, one_in}
 use Rattle.cuts.proofs.Asking.{only_le}
-use borrow.Author.Rules.{rules}
 use Rattle.cuts.proofs.plans.plan_of.Goals as goal
 use Rattle.cuts.proofs.plans.plan_of.Goals.{After-only_if-trig, After-only_if-two}
 

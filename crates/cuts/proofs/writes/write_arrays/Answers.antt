@@ -12,7 +12,6 @@ use Rattle.copies.proofs.Laws.{then}
 use Rattle.cuts.specs.Cuts.{setup_as}
 use Rattle.cuts.specs.Plans.{array_bytes}
 use Rattle.cuts.proofs.Readies.{There, ArrayNeeds, array_needs, array-out, one-bytes, two_none, two-one}
-use borrow.Author.Rules.{rules}
 use Rattle.cuts.proofs.writes.write_arrays.Goals as goal
 use Rattle.cuts.proofs.writes.write_arrays.Goals.{After-shared_slice_known-1, After-slice_known-1, Then-plan-ne0}
 

@@ -14,7 +14,6 @@ use Rattle.cuts.specs.Cuts.{setup_as}
 use Rattle.cuts.specs.Plans.{trig_bytes, ris_bytes, array_bytes}
 use Rattle.copies.proofs.Laws.{three_at}
 use Rattle.cuts.proofs.Readies.{FrontNeeds, front_needs, front_bytes, table-bytes, cut_out}
-use borrow.Author.Rules.{rules}
 use Rattle.cuts.proofs.writes.write_cut.Goals as goal
 use Rattle.cuts.proofs.writes.write_cut.Goals.{After-shared_slice_known-1}
 
@@ -44,15 +43,15 @@ overflow_add-arrays-2 c = omega (arith, small (goal.at.overflow_add-arrays-2 c).
 
 pub write_tables-requires : goal.write_tables-requires
 write_tables-requires c = record {
-      ready = c.requires.ready;
-      lengths_in_bounds = omega (arith, small (goal.at.write_tables-requires c).After-shared_slice_known-1, c.write_front.auto);
-    }
+  ready = c.requires.ready;
+  lengths_in_bounds = omega (arith, small (goal.at.write_tables-requires c).After-shared_slice_known-1, c.write_front.auto);
+}
 
 pub write_arrays-requires : goal.write_arrays-requires
 write_arrays-requires c = record {
-      ready = c.requires.ready;
-      two_in_bounds = omega (arith, small (goal.at.write_arrays-requires c).After-shared_slice_known-1, c.write_front.auto, c.write_tables.auto);
-    }
+  ready = c.requires.ready;
+  two_in_bounds = omega (arith, small (goal.at.write_arrays-requires c).After-shared_slice_known-1, c.write_front.auto, c.write_tables.auto);
+}
 
 pub returns : goal.returns
 returns c =

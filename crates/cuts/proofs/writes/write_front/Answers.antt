@@ -15,7 +15,6 @@ use Rattle.heads.specs.Heads.{changes_by}
 use Rattle.cuts.specs.Cuts.{setup_as}
 use Rattle.copies.proofs.Laws.{three_at}
 use Rattle.cuts.proofs.Readies.{FrontNeeds, front_needs, head_bytes, head-out, text_out, order_asked}
-use borrow.Author.Rules.{rules}
 use Rattle.cuts.proofs.writes.write_front.Goals as goal
 use Rattle.cuts.proofs.writes.write_front.Goals.{After-shared_slice_known-1}
 

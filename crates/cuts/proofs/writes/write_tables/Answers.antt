@@ -11,7 +11,6 @@ use Rattle.copies.proofs.Laws.{then}
 use Rattle.cuts.specs.Cuts.{setup_as}
 use Rattle.cuts.specs.Plans.{trig_bytes, ris_bytes}
 use Rattle.cuts.proofs.Readies.{TableNeeds, table_needs, trig-bytes, ris-out}
-use borrow.Author.Rules.{rules}
 use Rattle.cuts.proofs.writes.write_tables.Goals as goal
 use Rattle.cuts.proofs.writes.write_tables.Goals.{After-shared_slice_known-1}
 

@@ -9,7 +9,6 @@ use Rattle.rules.proofs.Numbers.{below-index}
 use Rattle.rules.proofs.Splices.{splice_none}
 use Rattle.cuts.specs.Cuts.{setup_as}
 use Rattle.cuts.proofs.Readies.{TableNeeds, table_needs, trig-out, trig_none}
-use borrow.Author.Rules.{rules}
 use Rattle.cuts.proofs.writes.write_trig.Goals as goal
 use Rattle.cuts.proofs.writes.write_trig.Goals.{After-shared_slice_known-1, Else-plan-eq0}
 
@@ -45,10 +44,10 @@ overflow_mul-plan c = omega (arith, room (goal.at.overflow_mul-plan c).Else-plan
 
 pub copy_items-requires : goal.copy_items-requires
 copy_items-requires c = record {
-      width = inr (inr (inr refl));
-      width_in_bounds = omega (arith, room (goal.at.copy_items-requires c).Else-plan-eq0);
-      width_in_bounds_2 = omega (arith, (needed (goal.at.copy_items-requires c).After-shared_slice_known-1).trig-size c.if-plan-eq0.false, c.requires.trig_in_bounds);
-    }
+  width = inr (inr (inr refl));
+  width_in_bounds = omega (arith, room (goal.at.copy_items-requires c).Else-plan-eq0);
+  width_in_bounds_2 = omega (arith, (needed (goal.at.copy_items-requires c).After-shared_slice_known-1).trig-size c.if-plan-eq0.false, c.requires.trig_in_bounds);
+}
 
 pub returns : goal.returns
 returns c =

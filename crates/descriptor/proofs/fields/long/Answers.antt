@@ -1,7 +1,6 @@
 -- The 4 bytes at an offset of the template are that field.
 use mathlib.Core.Path.{◌∙◌}
 use Rattle.rules.proofs.Slices.{field_is}
-use borrow.Author.Rules.{rules}
 use Rattle.descriptor.proofs.fields.long.Goals as goal
 
 pub returns : goal.returns

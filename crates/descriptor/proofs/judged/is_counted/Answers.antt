@@ -5,7 +5,6 @@ use native.Mathlib.Omega.{arith}
 use Rattle.rules.specs.Rules.{counted}
 use Rattle.numbers.proofs.Bools.{joined-all}
 use Rattle.descriptor.specs.Fields.{head_by}
-use borrow.Author.Rules.{rules}
 use Rattle.descriptor.proofs.judged.is_counted.Goals as goal
 
 pub overflow_mul-wide : goal.overflow_mul-wide

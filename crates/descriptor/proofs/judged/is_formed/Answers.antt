@@ -2,7 +2,6 @@
 use Rattle.numbers.proofs.Bools.{and_assoc, and_end}
 use Rattle.rules.specs.Rules.{formed}
 use lib.Seq.{get_or-drop}
-use borrow.Author.Rules.{rules}
 use Rattle.descriptor.proofs.judged.is_formed.Goals as goal
 
 pub returns : goal.returns

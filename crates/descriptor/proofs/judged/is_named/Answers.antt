@@ -1,7 +1,6 @@
 -- Two numbers a name.
 use Rattle.rules.proofs.Numbers.{below-index}
 use Rattle.descriptor.proofs.Names.{names_tests}
-use borrow.Author.Rules.{rules}
 use Rattle.descriptor.proofs.judged.is_named.Goals as goal
 
 pub returns : goal.returns

@@ -4,7 +4,6 @@ use native.Mathlib.Nat.{mul-le-mul, div-le_self}
 use native.Mathlib.Omega.{arith}
 use Rattle.numbers.proofs.Bools.{and_assoc, and_end}
 use Rattle.rules.specs.Rules.{placed}
-use borrow.Author.Rules.{rules}
 use Rattle.descriptor.proofs.judged.is_placed.Goals as goal
 use Rattle.descriptor.proofs.judged.is_placed.Goals.{After-struct_known-4-1}
 

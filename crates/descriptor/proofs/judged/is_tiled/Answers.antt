@@ -7,7 +7,6 @@ use lib.Seq.{take_all}
 use Rattle.rules.specs.Rules.{all, tiles}
 use Rattle.numbers.proofs.Reading.{window, part_window}
 use Rattle.numbers.proofs.Bools.{joined-all}
-use borrow.Author.Rules.{rules}
 use Rattle.descriptor.proofs.judged.is_tiled.Goals as goal
 
 pub returns : goal.returns

@@ -13,7 +13,7 @@ use Rattle.rules.specs.Numbers.{up_from}
 use Rattle.rules.specs.Points.{value_of, mark_count_of}
 use Rattle.rules.proofs.Numbers.{length-bytes}
 use Rattle.scale.proofs.Samples.{cast_fits, cast_same, small}
-use Rattle.fills.specs.Fills.{sample_at, bits_of, value_at, bits_from, mark_count_from, over}
+use Rattle.fills.specs.Fills.{sample_at, bits_of, value_at, mark_count_from}
 use Rattle.rules.proofs.Marks.{marks_few}
 use Rattle.fills.proofs.Marking.{marks-one}
 use Rattle.fills.proofs.Sampling.{fewer, counted}
@@ -36,10 +36,10 @@ overflow_cast-z c = cast_fits w16 w32 c.sample-z.result (record { sfits = c.samp
 
 pub put_value-requires : goal.put_value-requires
 put_value-requires c = let r = c.sample-z in record {
-      finite_value = search rules;
-      sample_bound = small w16 r.result (record { sfits = r.type_inv }) (lit≤ tt);
-      at_in_bounds = omega arith;
-    }
+  finite_value = search rules;
+  sample_bound = small w16 r.result (record { sfits = r.type_inv }) (lit≤ tt);
+  at_in_bounds = omega arith;
+}
 
 pub count_mark-marks-requires : goal.count_mark-marks-requires
 count_mark-marks-requires c = c.requires.holds.narrow

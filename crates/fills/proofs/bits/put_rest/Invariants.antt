@@ -1,23 +1,8 @@
 -- Each turn writes the bits of the next value, and counts the mark of its sample.
-use mathlib.Core.Path.{◌≡◌, refl, ap, ◌∙◌}
-use mathlib.Core.List.{List, flatten}
-use Prim.Native.Nat.{ℕ, ◌+◌, ◌*◌, ◌-◌, ◌≤◌}
-use native.Mathlib.Omega.{arith}
-use lib.IntN.{ℤ}
+use mathlib.Core.Path.{◌≡◌}
+use Prim.Native.Nat.{◌*◌, ◌-◌, ◌≤◌}
 use lib.ListN.{length}
-use lib.Dec.{lit≤}
-use mir.Syntax.{w16, w32}
-use mir.ValLaws.{to_z-of_z}
-use borrow.Author.Rules.{rules}
-use Rattle.rules.specs.Numbers.{up_from}
-use Rattle.rules.specs.Points.{value_of, mark_count_of}
-use Rattle.rules.proofs.Numbers.{length-bytes}
-use Rattle.scale.proofs.Samples.{cast_fits, cast_same, small}
-use Rattle.fills.specs.Fills.{sample_at, bits_of, value_at, bits_from, mark_count_from, over}
-use Rattle.rules.proofs.Marks.{marks_few}
-use Rattle.fills.proofs.Marking.{marks-one}
-use Rattle.fills.proofs.Sampling.{fewer, counted}
-use Rattle.fills.proofs.Writes.{over_none, run-one}
+use Rattle.fills.specs.Fills.{bits_from, mark_count_from, over}
 use Rattle.fills.proofs.bits.put_rest.Given as goal
 
 abbrev pub invariant-loop-i : goal.invariant-loop-i

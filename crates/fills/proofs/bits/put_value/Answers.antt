@@ -4,7 +4,6 @@ use Prim.Native.Nat.{ℕ}
 use lib.Ieee.{Float}
 use mir.Syntax.{w32}
 use mir.ValLaws.{to_z-of_z}
-use borrow.Author.Rules.{rules}
 use Rattle.rules.specs.Numbers.{bytes}
 use Rattle.rules.specs.Points.{value_of}
 use Rattle.scale.proofs.Finite.{near_no_nan}

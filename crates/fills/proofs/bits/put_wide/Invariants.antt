@@ -1,19 +1,12 @@
 -- Each turn writes the bits of two values more.
-use mathlib.Core.Path.{◌≡◌, refl, ap, ◌∙◌}
-use mathlib.Core.List.{List, map, flatten}
-use Prim.Native.Nat.{ℕ, ◌+◌, ◌*◌, ◌-◌, ◌≤◌, ◌<◌}
-use native.Mathlib.Omega.{arith}
-use lib.IntN.{ℤ, pos}
+use mathlib.Core.Path.{◌≡◌}
+use mathlib.Core.List.{map, flatten}
+use Prim.Native.Nat.{◌*◌, ◌-◌, ◌≤◌}
+use lib.IntN.{pos}
 use lib.ListN.{length, get_or}
-use mir.Syntax.{w32}
-use mir.Val.{to_z, of_z}
-use borrow.Author.Rules.{rules}
 use Rattle.rules.specs.Numbers.{up_from}
 use Rattle.rules.specs.Points.{value_of}
-use Rattle.rules.proofs.Numbers.{length-bytes}
 use Rattle.fills.specs.Fills.{bits_of, over}
-use Rattle.fills.proofs.Sampling.{passed, passed_small}
-use Rattle.fills.proofs.Writes.{over_none, run-one, map-get_or}
 use Rattle.fills.proofs.bits.put_wide.Given as goal
 
 abbrev pub invariant-loop-k : goal.invariant-loop-k

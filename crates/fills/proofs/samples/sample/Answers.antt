@@ -7,7 +7,6 @@ use lib.ListN.{take, drop}
 use lib.IntN.{ℤ}
 use mir.Syntax.{w8, w16}
 use mir.ValLaws.{to_z-of_z}
-use borrow.Author.Rules.{rules}
 use Rattle.rules.specs.Numbers.{number, signed}
 use Rattle.fills.specs.Fills.{sample_at}
 use Rattle.scale.proofs.Samples.{cast_fits, cast_same}

@@ -1,20 +1,11 @@
 -- Each turn stores the next number, which is the same in 32 bits.
-use mathlib.Core.Path.{◌≡◌, sym, subst, ◌∙◌}
-use mathlib.Core.List.{List, map, map-id}
+use mathlib.Core.Path.{◌≡◌}
+use mathlib.Core.List.{map}
 use Prim.Native.Nat.{ℕ, ◌-◌, ◌^◌, ◌≤◌, ◌<◌}
-use native.Mathlib.Nat.{le_trans}
-use native.Mathlib.Omega.{arith}
-use lib.Dec.{lit≤}
-use lib.IntN.{ℤ, pos, nat_abs}
-use lib.ListN.{length, get_or}
-use lib.Signed.{nat_abs-le}
-use mir.Syntax.{w16, w32}
-use mir.Val.{SFits}
-use borrow.Author.Rules.{rules}
+use lib.IntN.{pos, nat_abs}
+use lib.ListN.{get_or}
 use Rattle.rules.specs.Numbers.{up_from}
-use Rattle.scale.proofs.Samples.{cast_fits, cast_same}
 use Rattle.fills.specs.Fills.{over}
-use Rattle.fills.proofs.Writes.{over_none, over-whole, length_map_up, all_next, map-one, map-get_or}
 use Rattle.fills.proofs.samples.widen.Given as goal
 
 abbrev pub invariant-loop-k : goal.invariant-loop-k

@@ -3,7 +3,6 @@ use mathlib.Core.Path.{sym, ◌∙◌}
 use Prim.Native.Nat.{◌+◌}
 use native.Mathlib.Omega.{arith}
 use lib.ListN.{take, drop}
-use borrow.Author.Rules.{rules}
 use Rattle.rules.specs.Numbers.{low}
 use Rattle.numbers.proofs.Reading.{number-low, read-high, read_low}
 use Rattle.fills.proofs.samples.word_at.Goals as goal

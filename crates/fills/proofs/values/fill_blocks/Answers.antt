@@ -1,7 +1,7 @@
 -- Each turn writes sixty-four values more, and counts the marks of their samples.
 use mathlib.Core.Path.{◌≡◌, refl, ap, ◌∙◌}
 use mathlib.Core.List.{map, map-map}
-use Prim.Native.Nat.{ℕ, ◌+◌, ◌-◌, ◌≤◌}
+use Prim.Native.Nat.{ℕ, ◌+◌, ◌-◌}
 use native.Mathlib.Omega.{arith}
 use lib.IntN.{ℤ}
 use lib.Ieee.{Float}
@@ -9,7 +9,7 @@ use lib.ListN.{length}
 use borrow.Author.Rules.{rules}
 use Rattle.rules.specs.Numbers.{up_from}
 use Rattle.rules.specs.Points.{value_of, mark_count_of}
-use Rattle.fills.specs.Fills.{sample_at, value_at, values_from, mark_count_from, over}
+use Rattle.fills.specs.Fills.{sample_at, value_at, mark_count_from, over}
 use Rattle.rules.proofs.Marks.{marks_few}
 use Rattle.fills.proofs.Marking.{marks_more}
 use Rattle.fills.proofs.Sampling.{fewer, counted}
@@ -23,9 +23,9 @@ loop-i-init c = (search rules, refl, refl, over_none c.args.out.now 0, refl)
 
 pub read_samples-requires : goal.read_samples-requires
 read_samples-requires c = record {
-      holds = fewer c.requires.holds _ (omega arith);
-      samples_len = c.loop-i.invariant.1;
-    }
+  holds = fewer c.requires.holds _ (omega arith);
+  samples_len = c.loop-i.invariant.1;
+}
 
 pub scale_samples-requires : goal.scale_samples-requires
 scale_samples-requires c =
@@ -86,7 +86,7 @@ shape_of-out c = c.loop-i.invariant.2
 
 pub returns : goal.returns
 returns c = let l = c.loop-i in record {
-      samples_le_count = l.invariant.0;
-      out_after = l.invariant.3;
-      marks_value = l.invariant.4;
-    }
+  samples_le_count = l.invariant.0;
+  out_after = l.invariant.3;
+  marks_value = l.invariant.4;
+}

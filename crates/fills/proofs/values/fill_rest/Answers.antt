@@ -1,6 +1,6 @@
 -- Each turn writes the next value, and counts the mark of its sample.
 use mathlib.Core.Path.{◌≡◌, refl, ap, ◌∙◌}
-use Prim.Native.Nat.{ℕ, ◌+◌, ◌-◌, ◌≤◌}
+use Prim.Native.Nat.{ℕ, ◌+◌, ◌-◌}
 use native.Mathlib.Omega.{arith}
 use lib.Ieee.{Float}
 use lib.ListN.{length, length-set}
@@ -9,7 +9,7 @@ use mir.ValLaws.{to_z-of_z}
 use borrow.Author.Rules.{rules}
 use Rattle.rules.specs.Numbers.{up_from}
 use Rattle.rules.specs.Points.{value_of, mark_count_of}
-use Rattle.fills.specs.Fills.{sample_at, value_at, values_from, mark_count_from, over}
+use Rattle.fills.specs.Fills.{sample_at, value_at, mark_count_from}
 use Rattle.rules.proofs.Marks.{marks_few}
 use Rattle.fills.proofs.Marking.{marks-one}
 use Rattle.fills.proofs.Sampling.{fewer, counted}

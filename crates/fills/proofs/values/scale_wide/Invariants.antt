@@ -1,17 +1,12 @@
 -- Each turn writes the next value.
-use mathlib.Core.Path.{◌≡◌, refl, ap, ◌∙◌}
+use mathlib.Core.Path.{◌≡◌}
 use mathlib.Core.List.{map}
-use Prim.Native.Nat.{ℕ, ◌+◌, ◌-◌, ◌≤◌}
-use native.Mathlib.Omega.{arith}
+use Prim.Native.Nat.{◌-◌, ◌≤◌}
 use lib.IntN.{pos}
-use lib.Ieee.{Float}
-use lib.ListN.{length, get_or, length-set}
-use borrow.Author.Rules.{rules}
+use lib.ListN.{length, get_or}
 use Rattle.rules.specs.Numbers.{up_from}
 use Rattle.rules.specs.Points.{value_of}
 use Rattle.fills.specs.Fills.{over}
-use Rattle.fills.proofs.Sampling.{passed, passed_small}
-use Rattle.fills.proofs.Writes.{over_none, map-one, map-get_or}
 use Rattle.fills.proofs.values.scale_wide.Given as goal
 
 abbrev pub invariant-loop-k : goal.invariant-loop-k

@@ -6,7 +6,6 @@ use mathlib.Core.List.{List}
 use lib.ListN.{get_or}
 use Rattle.rules.specs.Numbers.{Bytes, splice}
 use Rattle.rules.proofs.Numbers.{below-index}
-use borrow.Author.Rules.{rules}
 use Rattle.joins.specs.Steps.{tables_to}
 use Rattle.joins.proofs.Tabled.{first-within}
 use Rattle.joins.proofs.Joining.{few, sum, fronting, front-written}

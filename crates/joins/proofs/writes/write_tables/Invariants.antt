@@ -1,16 +1,9 @@
 -- Each table stands behind the one before.
-use mathlib.Core.Path.{◌≡◌, refl, ap, ap₂, ◌∙◌}
-use Prim.Native.Nat.{ℕ, ◌+◌, ◌-◌, ◌*◌, ◌≤◌}
-use native.Mathlib.Omega.{arith}
-use mathlib.Core.List.{List}
+use mathlib.Core.Path.{◌≡◌}
+use Prim.Native.Nat.{◌+◌, ◌-◌, ◌≤◌}
 use lib.ListN.{length, get_or}
-use Rattle.rules.specs.Numbers.{Bytes, splice, starts_from}
-use Rattle.rules.proofs.Numbers.{below-index}
-use Rattle.rules.proofs.Splices.{splice_none}
-use borrow.Author.Rules.{rules}
-use Rattle.parts.specs.Parts.{rows_of}
-use Rattle.joins.specs.Steps.{table_of, tables_to}
-use Rattle.joins.proofs.Tabled.{start-within, first-within, can_place, row_ends, placed, first-start, next_start, table-room, next_table}
+use Rattle.rules.specs.Numbers.{splice, starts_from}
+use Rattle.joins.specs.Steps.{tables_to}
 use Rattle.joins.proofs.writes.write_tables.Given as goal
 
 abbrev pub invariant-loop-k : goal.invariant-loop-k

@@ -8,7 +8,6 @@ use Rattle.rules.specs.Numbers.{splice}
 use Rattle.rules.proofs.Numbers.{below-index}
 use Rattle.narrowing.proofs.Accepted.{says-narrow}
 use Rattle.narrows.proofs.Answers.{ByteNeeds, byte_needs, room-number, refuses, narrows}
-use borrow.Author.Rules.{rules}
 use Rattle.narrows.proofs.bytes.narrow_byte.Goals as goal
 use Rattle.narrows.proofs.bytes.narrow_byte.Goals.{After-shared_slice_known-1}
 
@@ -33,9 +32,9 @@ returns-then-out-total c =
 
 pub write_byte-requires : goal.write_byte-requires
 write_byte-requires c = let n = needed (goal.at.write_byte-requires c).After-shared_slice_known-1 in record {
-      total_in_bounds = (n.room, n.small);
-      total_in_bounds_2 = omega (arith, c.if-out-total.false);
-    }
+  total_in_bounds = (n.room, n.small);
+  total_in_bounds_2 = omega (arith, c.if-out-total.false);
+}
 
 pub overflow_cast-result : goal.overflow_cast-result
 overflow_cast-result c = omega (arith, (needed (goal.at.overflow_cast-result c).After-shared_slice_known-1).small)

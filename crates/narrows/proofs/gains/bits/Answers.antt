@@ -1,6 +1,5 @@
 -- A finite float is no NaN.
 use Rattle.numbers.proofs.Patterns.{no_nan}
-use borrow.Author.Rules.{rules}
 use Rattle.narrows.proofs.gains.bits.Goals as goal
 
 pub float_to_bits-result : goal.float_to_bits-result

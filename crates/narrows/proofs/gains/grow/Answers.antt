@@ -1,9 +1,8 @@
 -- Each turn doubles once more, and adds at most one to the exponent's field (`grown-most`).
 use mathlib.Core.Path.{◌≡◌, refl, sym, ap, ◌∙◌}
-use Prim.Native.Nat.{ℕ, ◌-◌, ◌≤◌}
+use Prim.Native.Nat.{ℕ, ◌-◌}
 use native.Mathlib.Numerals.{add-one}
 use native.Mathlib.Omega.{arith}
-use borrow.Author.Rules.{rules}
 use Rattle.narrows.specs.Steps.{doubled, grown}
 use Rattle.narrows.proofs.Doubles.{grown-most}
 use Rattle.narrows.proofs.gains.grow.Goals as goal

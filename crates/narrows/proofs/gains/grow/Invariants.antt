@@ -1,10 +1,7 @@
 -- Each turn doubles once more, and adds at most one to the exponent's field (`grown-most`).
-use mathlib.Core.Path.{◌≡◌, refl, sym, ap, ◌∙◌}
-use Prim.Native.Nat.{ℕ, ◌-◌, ◌≤◌}
-use native.Mathlib.Numerals.{add-one}
-use native.Mathlib.Omega.{arith}
-use borrow.Author.Rules.{rules}
-use Rattle.narrows.specs.Steps.{doubled, grown}
+use mathlib.Core.Path.{◌≡◌}
+use Prim.Native.Nat.{◌-◌, ◌≤◌}
+use Rattle.narrows.specs.Steps.{grown}
 use Rattle.narrows.proofs.Doubles.{grown-most}
 use Rattle.narrows.proofs.gains.grow.Given as goal
 

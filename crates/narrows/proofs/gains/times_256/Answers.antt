@@ -5,7 +5,6 @@ use mathlib.Core.Bool.{Bool, true, false, cond}
 use native.Mathlib.Omega.{arith}
 use lib.Dec.{leb}
 use borrow.Author.Tests.{ltb-true, leb-true, leb-false}
-use borrow.Author.Rules.{rules}
 use Rattle.narrows.proofs.Doubles.{pattern_range, pattern_times256}
 use Rattle.narrows.proofs.gains.times_256.Goals as goal
 

@@ -15,7 +15,6 @@ use Rattle.narrowing.specs.Narrow.{widened, times256, gain}
 use Rattle.narrowing.proofs.Accepted.{says-narrow}
 use Rattle.narrows.specs.Steps.{word_block}
 use Rattle.narrows.proofs.Answers.{WordNeeds, word_needs, gain-number, room-number, refuses, narrows}
-use borrow.Author.Rules.{rules}
 use Rattle.narrows.proofs.words.narrow_word.Goals as goal
 use Rattle.narrows.proofs.words.narrow_word.Goals.{After-bits-gain, After-is_narrow, After-shared_slice_known-1}
 

@@ -3,7 +3,6 @@ use mathlib.Core.Path.{ap, ◌∙◌}
 use mathlib.Core.List.{List}
 use Prim.Native.Nat.{ℕ}
 use Rattle.rules.specs.Numbers.{bytes, splice}
-use borrow.Author.Rules.{rules}
 use Rattle.narrows.proofs.writes.put_fields.Goals as goal
 
 pub returns : goal.returns

@@ -6,7 +6,6 @@ use native.Mathlib.Omega.{arith}
 use Rattle.rules.specs.Numbers.{splice}
 use Rattle.copies.specs.Copies.{part}
 use Rattle.narrows.proofs.Written.{byte_stored}
-use borrow.Author.Rules.{rules}
 use Rattle.narrows.proofs.writes.write_byte.Goals as goal
 
 pub returns : goal.returns

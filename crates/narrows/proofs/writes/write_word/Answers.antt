@@ -9,7 +9,6 @@ use Rattle.rules.proofs.Numbers.{below-index}
 use Rattle.copies.specs.Copies.{part, items}
 use Rattle.narrows.specs.Steps.{fields_put}
 use Rattle.narrows.proofs.Written.{word_stored}
-use borrow.Author.Rules.{rules}
 use Rattle.narrows.proofs.writes.write_word.Goals as goal
 
 pub returns : goal.returns

@@ -1,5 +1,4 @@
 -- A finite pattern of 64 bits is no NaN.
-use borrow.Author.Rules.{rules}
 use lib.Ieee.{binary64}
 use Rattle.rules.specs.Rules.{finite64}
 use Rattle.numbers.proofs.Patterns.{no_nan_bits}

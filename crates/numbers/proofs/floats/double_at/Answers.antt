@@ -4,7 +4,6 @@ use mathlib.Core.Bool.{true}
 use Prim.Native.Nat.{ℕ}
 use lib.Ieee.{binary64, of_bits}
 use Rattle.rules.specs.Rules.{finite64}
-use borrow.Author.Rules.{rules}
 use Rattle.numbers.proofs.floats.double_at.Goals as goal
 
 pub double-requires : goal.double-requires

@@ -1,5 +1,4 @@
 -- The two highest bytes, first or last.
-use borrow.Author.Rules.{rules}
 use mathlib.Core.Path.{ap, ◌∙◌}
 use Prim.Native.Nat.{ℕ, ◌%◌}
 use lib.Dec.{ltb}

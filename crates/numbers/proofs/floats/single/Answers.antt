@@ -1,5 +1,4 @@
 -- A finite pattern of 32 bits is no NaN.
-use borrow.Author.Rules.{rules}
 use lib.Ieee.{binary32}
 use Rattle.rules.specs.Rules.{finite32}
 use Rattle.numbers.proofs.Patterns.{no_nan_bits}

@@ -1,7 +1,6 @@
 -- The digits to the base 256, put together from the other end.
 use native.Mathlib.Omega.{arith}
 use Rattle.rules.specs.Numbers.{low, digits, number, bytes}
-use borrow.Author.Rules.{rules}
 use Rattle.numbers.proofs.reads.turned.Goals as goal
 
 pub returns : goal.returns

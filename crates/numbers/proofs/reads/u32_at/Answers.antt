@@ -1,5 +1,4 @@
 -- The 4 bytes joined are the number in either order.
-use borrow.Author.Rules.{rules}
 use native.Mathlib.Omega.{arith}
 use Rattle.rules.specs.Numbers.{low}
 use Rattle.numbers.proofs.Reading.{read-high, read_low}

@@ -4,7 +4,6 @@ use native.Mathlib.Omega.{arith}
 use Rattle.rules.specs.Numbers.{low}
 use Rattle.rules.proofs.Numbers.{below-index}
 use Rattle.numbers.proofs.Reading.{window, read_low, read_turned}
-use borrow.Author.Rules.{rules}
 use Rattle.numbers.proofs.reads.u64_at.Goals as goal
 
 pub returns-then-order-eq0 : goal.returns-then-order-eq0

@@ -1,5 +1,4 @@
 -- One byte is the number in every order.
-use borrow.Author.Rules.{rules}
 use native.Mathlib.Omega.{arith}
 use Rattle.numbers.proofs.Reading.{read_one}
 use Rattle.numbers.proofs.reads.u8_at.Goals as goal

@@ -1,5 +1,4 @@
 -- Both halves of the numbers of 16 bits.
-use borrow.Author.Rules.{rules}
 use mir.Syntax.{w16}
 use Rattle.numbers.proofs.Twos.{read, flipped}
 use Rattle.numbers.proofs.signs.signed16.Goals as goal

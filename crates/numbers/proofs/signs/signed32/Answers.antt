@@ -1,5 +1,4 @@
 -- Both halves of the numbers of 32 bits.
-use borrow.Author.Rules.{rules}
 use mir.Syntax.{w32}
 use Rattle.numbers.proofs.Twos.{read, flipped}
 use Rattle.numbers.proofs.signs.signed32.Goals as goal

@@ -1,5 +1,4 @@
 -- Both halves of the numbers of 8 bits.
-use borrow.Author.Rules.{rules}
 use mir.Syntax.{w8}
 use Rattle.numbers.proofs.Twos.{read, flipped}
 use Rattle.numbers.proofs.signs.signed8.Goals as goal

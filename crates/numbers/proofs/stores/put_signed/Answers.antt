@@ -4,7 +4,6 @@ use Prim.Native.Nat.{ℕ}
 use mir.Syntax.{w16, w64}
 use mir.Val.{to_z, of_z}
 use mir.ValLaws.{to_z-of_z}
-use borrow.Author.Rules.{rules}
 use Rattle.rules.specs.Numbers.{bytes, unsigned, splice}
 use Rattle.numbers.proofs.Twos.{widened}
 use Rattle.numbers.proofs.stores.put_signed.Goals as goal

@@ -1,5 +1,4 @@
 -- The 4 stores write the bytes of the number in either order.
-use borrow.Author.Rules.{rules}
 use lib.ListN.{length-set}
 use native.Mathlib.Omega.{arith}
 use native.Mathlib.Numerals.{towards_suc}

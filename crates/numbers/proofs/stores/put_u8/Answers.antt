@@ -1,5 +1,4 @@
 -- One byte is the same in every order.
-use borrow.Author.Rules.{rules}
 use native.Mathlib.Omega.{arith}
 use Rattle.numbers.proofs.Storing.{store_one}
 use Rattle.numbers.proofs.stores.put_u8.Goals as goal

@@ -1,7 +1,6 @@
 -- 9, then 10.
 use lib.ListN.{get_or}
 use Rattle.points.proofs.Refusals.{is_nine, is_ten, is_none}
-use borrow.Author.Rules.{rules}
 use Rattle.points.proofs.asked.chosen.Goals as goal
 
 pub returns-then-not-array-two : goal.returns-then-not-array-two

@@ -5,7 +5,6 @@ use Prim.Native.Nat.{◌+◌}
 use mir.Syntax.{w16}
 use mir.Val.{to_z, of_z}
 use mir.ValLaws.{to_z-of_z}
-use borrow.Author.Rules.{rules}
 use Rattle.fills.specs.Fills.{sample_at, value_at, mark_at}
 use Rattle.points.proofs.asked.sampled_at.Goals as goal
 

@@ -6,7 +6,6 @@ use Rattle.rules.specs.Numbers.{Bytes}
 use Rattle.rules.proofs.Numbers.{below-index}
 use Rattle.points.proofs.Refusals.{points_are, point_none, fill_block, fill_segment, fill_last, fill_none}
 use Rattle.points.proofs.Fillings.{some-points, fill_is, fill_refused}
-use borrow.Author.Rules.{rules}
 use Rattle.points.proofs.many.fill.Goals as goal
 use Rattle.points.proofs.many.fill.Goals.{After-shared_slice_known-1}
 

@@ -8,7 +8,6 @@ use Rattle.rules.specs.Points.{mark_count}
 use Rattle.rules.proofs.Numbers.{below-index}
 use Rattle.points.proofs.Values.{from-room, kind_small, value-finite}
 use Rattle.points.proofs.Fillings.{marks-small, put_room, put_is, put_marks}
-use borrow.Author.Rules.{rules}
 use Rattle.points.proofs.many.put.Goals as goal
 use Rattle.points.proofs.many.put.Goals.{After-shared_slice_known-1, After-slice_known-2-1, After-slice_known-then-o-eq0-1}
 

@@ -14,7 +14,6 @@ use Rattle.points.specs.declared.times.SegmentRule.{SegmentRule}
 use Rattle.points.specs.Steps.{place_by}
 use Rattle.points.specs.Walks.{segment_rule, rule_at}
 use Rattle.points.proofs.TimeRules.{rule_at_lem, rule_finite}
-use borrow.Author.Rules.{rules}
 use Rattle.points.proofs.Values.{accepts, is, timed, from-room, sample-room, kind_small, value-finite, value_is, mark_is, place-small, point_is}
 use Rattle.points.proofs.one.answered.Goals as goal
 use Rattle.points.proofs.one.answered.Goals.{After-rule_at-rule, After-shared_slice_known-1}

@@ -3,7 +3,6 @@ use mathlib.Core.Path.{◌∙◌}
 use Rattle.points.proofs.Refusals.{point_block, point_segment, point_last, point_none}
 use Rattle.points.proofs.Values.{point_refused}
 use native.Mathlib.Omega.{arith}
-use borrow.Author.Rules.{rules}
 use Rattle.points.proofs.one.point.Goals as goal
 
 pub returns-then-o-ne0 : goal.returns-then-o-ne0

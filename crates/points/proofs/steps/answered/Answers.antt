@@ -32,9 +32,9 @@ overflow_cast-i c = omega (arith, (inside (goal.at.overflow_cast-i c).After-shar
 
 pub time-time-requires : goal.time-time-requires
 time-time-requires c = record {
-      finite_rule = rule_finite c.args.rule (finite (goal.at.time-time-requires c).After-shared_slice_known-1).1.0;
-      i_bound = (inside (goal.at.time-time-requires c).After-shared_slice_known-1).small;
-    }
+  finite_rule = rule_finite c.args.rule (finite (goal.at.time-time-requires c).After-shared_slice_known-1).1.0;
+  i_bound = (inside (goal.at.time-time-requires c).After-shared_slice_known-1).small;
+}
 
 pub returns : goal.returns
 unfolding point_at

@@ -2,7 +2,6 @@
 use mathlib.Core.List.{[], ◌∷◌}
 use Rattle.scale.specs.Scale.{rule_as, finite_value, finite_rule}
 use Rattle.numbers.proofs.Bools.{joined-all}
-use borrow.Author.Rules.{rules}
 use Rattle.points.proofs.steps.is_finite.Goals as goal
 
 pub returns : goal.returns

@@ -9,7 +9,6 @@ use lib.Dec.{leb, ltb}
 use borrow.Author.Tests.{le-leb, lt-leb}
 use Rattle.rules.specs.Rules.{all}
 use Rattle.numbers.proofs.Bools.{joined-all}
-use borrow.Author.Rules.{rules}
 use Rattle.points.proofs.steps.is_inside.Goals as goal
 
 pub returns-then-kind-gt1 : goal.returns-then-kind-gt1

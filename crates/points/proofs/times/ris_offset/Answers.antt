@@ -10,7 +10,6 @@ use Rattle.rules.specs.Numbers.{number}
 use Rattle.rules.specs.Rules.{finite64}
 use Rattle.block.proofs.Ladder.{passes, fails}
 use Rattle.points.specs.Walks.{infinite, ris_offset}
-use borrow.Author.Rules.{rules}
 use Rattle.points.proofs.times.ris_offset.Goals as goal
 use Rattle.points.proofs.times.ris_offset.Goals.{After-finite_double_at, Else-not-fits}
 
@@ -58,9 +57,9 @@ returns-then-not-finite_double_at c =
 
 pub double_at-requires : goal.double_at-requires
 double_at-requires c = record {
-      at_in_bounds = omega (arith, inside (goal.at.double_at-requires c).Else-not-fits);
-      s_value = passes c.finite_double_at.ensures c.if-not-finite_double_at.false-raw;
-    }
+  at_in_bounds = omega (arith, inside (goal.at.double_at-requires c).Else-not-fits);
+  s_value = passes c.finite_double_at.ensures c.if-not-finite_double_at.false-raw;
+}
 
 pub returns : goal.returns
 returns c =

@@ -3,7 +3,6 @@ use mathlib.Core.Path.{ap, ◌∙◌}
 use Prim.Native.Nat.{ℕ, ◌%◌}
 use Rattle.rules.specs.Points.{Ris}
 use Rattle.points.specs.Walks.{ris_offset}
-use borrow.Author.Rules.{rules}
 use Rattle.points.proofs.times.ris_rule.Goals as goal
 
 pub returns : goal.returns

@@ -2,7 +2,6 @@
 use mathlib.Core.Path.{sym, ap, ◌∙◌}
 use Rattle.points.specs.declared.times.SegmentRule.{SegmentRule}
 use Rattle.points.specs.Walks.{rule_at}
-use borrow.Author.Rules.{rules}
 use Rattle.points.proofs.times.rule_at.Goals as goal
 
 pub returns-in-Segment : goal.returns-in-Segment

@@ -9,7 +9,6 @@ use Rattle.rules.specs.Numbers.{Bytes, number}
 use Rattle.rules.specs.Rules.{finite64}
 use Rattle.rules.proofs.Numbers.{below-index}
 use Rattle.points.proofs.TimeRules.{offset_room, offset-finite, segment_is, table_fits, ris_is, horizontal_is}
-use borrow.Author.Rules.{rules}
 use Rattle.points.proofs.times.segment_rule.Goals as goal
 use Rattle.points.proofs.times.segment_rule.Goals.{After-shared_slice_known-1}
 

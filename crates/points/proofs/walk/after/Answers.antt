@@ -1,6 +1,5 @@
 -- One further, or the same.
 use borrow.Author.Tests.{lt-ltb, le-ltb}
-use borrow.Author.Rules.{rules}
 use Rattle.points.proofs.walk.after.Goals as goal
 
 pub returns-then-k-place : goal.returns-then-k-place

@@ -5,7 +5,6 @@ use Rattle.rules.proofs.Numbers.{below-index}
 use Rattle.points.proofs.Refusals.{point_none, walk_block, walk_segment}
 use Rattle.points.proofs.Fillings.{some-points}
 use Rattle.points.proofs.Begins.{place-refused}
-use borrow.Author.Rules.{rules}
 use Rattle.points.proofs.walk.place_of.Goals as goal
 use Rattle.points.proofs.walk.place_of.Goals.{After-shared_slice_known-1}
 

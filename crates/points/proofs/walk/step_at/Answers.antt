@@ -5,7 +5,6 @@ use lib.ListN.{length}
 use Rattle.scale.specs.Scale.{rule_as}
 use Rattle.block.proofs.Ladder.{passes, fails}
 use Rattle.points.proofs.Stepping.{inside-says, outside, unsound, sound}
-use borrow.Author.Rules.{rules}
 use Rattle.points.proofs.walk.step_at.Goals as goal
 
 pub returns-then-not-is_inside : goal.returns-then-not-is_inside
@@ -29,9 +28,9 @@ returns-then-not-is_finite c =
 
 pub answered-requires : goal.answered-requires
 answered-requires c = record {
-      i_value = passes c.is_inside.ensures c.if-not-is_inside.false-raw;
-      rule_value = passes c.is_finite.ensures c.if-not-is_finite.false-raw;
-    }
+  i_value = passes c.is_inside.ensures c.if-not-is_inside.false-raw;
+  rule_value = passes c.is_finite.ensures c.if-not-is_finite.false-raw;
+}
 
 pub returns : goal.returns
 returns c =

@@ -2,7 +2,6 @@
 use mathlib.Core.Path.{ap, ◌∙◌}
 use Rattle.points.specs.declared.walk.Place.{Place}
 use Rattle.points.specs.Walks.{step_at, moved_to}
-use borrow.Author.Rules.{rules}
 use Rattle.points.proofs.walk.walked.Goals as goal
 
 pub returns : goal.returns

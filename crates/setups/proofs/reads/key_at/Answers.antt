@@ -1,7 +1,6 @@
 -- The four keys one after another: each place is that of the first that stands there.
 use mathlib.Core.Path.{refl}
 use mathlib.Core.Bool.{true, false}
-use borrow.Author.Rules.{rules}
 use Rattle.setups.proofs.Steps.{key_is}
 use Rattle.setups.proofs.reads.key_at.Goals as goal
 

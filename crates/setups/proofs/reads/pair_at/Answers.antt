@@ -8,7 +8,6 @@ use borrow.Author.Tests.{not-true, not-false}
 use Rattle.digits.specs.Digits.{digits_at, run_of}
 use Rattle.lines.specs.Reader.{value?}
 use Rattle.setups.proofs.Steps.{too_short, no_key, no_comma, no_value, pair_found, tested, tested_is, run_found, run-behind}
-use borrow.Author.Rules.{rules}
 use Rattle.setups.proofs.reads.pair_at.Goals as goal
 use Rattle.setups.proofs.reads.pair_at.Goals.{After-read-run}
 

@@ -5,7 +5,6 @@ use lib.ListN.{length, drop}
 use Rattle.lines.specs.Reader.{pairs_at}
 use Rattle.setups.specs.Setups.{pairs_as}
 use Rattle.setups.proofs.Answers.{word-within, no_word, by_pairs}
-use borrow.Author.Rules.{rules}
 use Rattle.setups.proofs.reads.read.Goals as goal
 
 pub returns-then-start-eq0 : goal.returns-then-start-eq0

@@ -8,12 +8,10 @@ use lib.ListN.{length, drop, length-set}
 use Rattle.rules.specs.Cut.{Setup}
 use Rattle.cuts.specs.Cuts.{setup_of}
 use Rattle.lines.specs.Reader.{pairs_at}
-use Rattle.setups.specs.Setups.{pairs_as}
 use Rattle.setups.specs.declared.Reading.TheVariants.{Taken}
 use Rattle.setups.proofs.Folds.{going_on, from_start, found_within, step_none, step_twice, step_end, step_stop, step_more}
-use borrow.Author.Rules.{rules}
 use Rattle.setups.proofs.reads.read_pairs.Goals as goal
-use Rattle.setups.proofs.reads.read_pairs.Goals.{After-pair_at-pair, Else-key-eq4, Else-next-line}
+use Rattle.setups.proofs.reads.read_pairs.Goals.{After-pair_at-pair, Else-next-line}
 
 pub loop-left-init : goal.loop-left-init
 loop-left-init c = (refl, c.requires, omega arith, from_start 4 (drop c.args.start c.args.line.now))

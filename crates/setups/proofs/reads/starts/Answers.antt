@@ -1,10 +1,9 @@
 -- What is passed of the text stands in the line.
-use mathlib.Core.Path.{◌≡◌, refl, sym, ◌∙◌}
-use Prim.Native.Nat.{◌-◌, ◌≤◌}
+use mathlib.Core.Path.{refl, sym, ◌∙◌}
+use Prim.Native.Nat.{◌-◌}
 use native.Mathlib.Numerals.{add-one}
 use native.Mathlib.Omega.{arith}
-use lib.ListN.{length, take, drop, length-take}
-use Rattle.rules.specs.Rules.{same}
+use lib.ListN.{length, take, length-take}
 use Rattle.setups.proofs.Starts.{same_unlike, same_stop, same_more, same_end}
 use Rattle.setups.proofs.reads.starts.Goals as goal
 

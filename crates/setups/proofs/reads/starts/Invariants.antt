@@ -1,11 +1,8 @@
 -- What is passed of the text stands in the line.
-use mathlib.Core.Path.{◌≡◌, refl, sym, ◌∙◌}
+use mathlib.Core.Path.{◌≡◌}
 use Prim.Native.Nat.{◌-◌, ◌≤◌}
-use native.Mathlib.Numerals.{add-one}
-use native.Mathlib.Omega.{arith}
-use lib.ListN.{length, take, drop, length-take}
+use lib.ListN.{length, take, drop}
 use Rattle.rules.specs.Rules.{same}
-use Rattle.setups.proofs.Starts.{same_unlike, same_stop, same_more, same_end}
 use Rattle.setups.proofs.reads.starts.Given as goal
 
 abbrev pub invariant-loop-i : goal.invariant-loop-i

@@ -1,7 +1,6 @@
 -- One word, the other, or none.
 use mathlib.Core.Path.{refl, sym, ◌∙◌}
 use mathlib.Core.Bool.{true, false}
-use borrow.Author.Rules.{rules}
 use Rattle.setups.proofs.Answers.{word_by}
 use Rattle.setups.proofs.reads.word_end.Goals as goal
 

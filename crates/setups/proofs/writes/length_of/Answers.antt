@@ -3,7 +3,6 @@ use mathlib.Core.Path.{sym, ap, ◌∙◌}
 use Rattle.cuts.specs.Cuts.{setup_as}
 use Rattle.lines.proofs.Writing.{length-line}
 use Rattle.setups.specs.Setups.{line_length}
-use borrow.Author.Rules.{rules}
 use Rattle.setups.proofs.writes.length_of.Goals as goal
 
 pub line_length-requires : goal.line_length-requires

@@ -9,7 +9,6 @@ use Rattle.copies.proofs.Laws.{behind}
 use Rattle.cuts.specs.Cuts.{setup_as}
 use Rattle.setups.specs.declared.writes.Widths.{Widths}
 use Rattle.setups.proofs.Written.{line-parts}
-use borrow.Author.Rules.{rules}
 use Rattle.setups.proofs.writes.put_line.Goals as goal
 use Rattle.setups.proofs.writes.put_line.Goals.{After-put_pair-fp, After-put_pair-np, After-put_pair-sp, After-slice_known-1}
 
@@ -28,9 +27,9 @@ is_sn c = ap (λ (w : Widths). w.sn) c.requires.widths_value
 
 pub put_pair-sp-requires : goal.put_pair-sp-requires
 put_pair-sp-requires c = record {
-      width_value = is_sp (goal.at.put_pair-sp-requires c).After-slice_known-1;
-      width_in_bounds = omega (arith, c.requires.widths_in_bounds);
-    }
+  width_value = is_sp (goal.at.put_pair-sp-requires c).After-slice_known-1;
+  width_in_bounds = omega (arith, c.requires.widths_in_bounds);
+}
 
 -- where each ends
 first-end : (c : After-put_pair-sp) → let a = c.args in c.put_pair-sp.result ≡ 8 + a.widths.sp

@@ -1,14 +1,13 @@
 -- The text, and the digits behind it.
 use native.Mathlib.Omega.{arith}
 use Rattle.setups.proofs.Written.{pair-written}
-use borrow.Author.Rules.{rules}
 use Rattle.setups.proofs.writes.put_pair.Goals as goal
 
 pub copy_bytes-requires : goal.copy_bytes-requires
 copy_bytes-requires c = record {
-      count_in_bounds = omega arith;
-      count_in_bounds_2 = omega (arith, c.requires.width_in_bounds);
-    }
+  count_in_bounds = omega arith;
+  count_in_bounds_2 = omega (arith, c.requires.width_in_bounds);
+}
 
 pub put_digits-requires : goal.put_digits-requires
 put_digits-requires c =

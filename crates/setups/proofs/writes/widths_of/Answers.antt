@@ -3,7 +3,6 @@ use Prim.Native.Nat.{◌≤◌}
 use native.Mathlib.Omega.{arith}
 use Rattle.digits.specs.Digits.{places}
 use Rattle.digits.proofs.Spelled.{places_few}
-use borrow.Author.Rules.{rules}
 use Rattle.setups.proofs.writes.widths_of.Goals as goal
 
 pub returns : goal.returns

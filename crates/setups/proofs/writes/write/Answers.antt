@@ -7,7 +7,6 @@ use Rattle.lines.specs.Writer.{setup_line}
 use Rattle.lines.proofs.Writing.{length-line}
 use Rattle.setups.specs.Setups.{line_length}
 use Rattle.setups.proofs.Written.{write_refused, write_done}
-use borrow.Author.Rules.{rules}
 use Rattle.setups.proofs.writes.write.Goals as goal
 use Rattle.setups.proofs.writes.write.Goals.{After-line_length-long}
 

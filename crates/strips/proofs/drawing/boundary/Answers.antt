@@ -1,7 +1,6 @@
 -- The product fits 64 bits.
 use native.Mathlib.Omega.{arith}
 use mathlib.Core.Path.{refl}
-use borrow.Author.Rules.{rules}
 use Rattle.columns.specs.Columns.{start}
 use Rattle.strips.proofs.Telling.{product_fits}
 use Rattle.strips.proofs.drawing.boundary.Goals as goal

@@ -1,13 +1,12 @@
 -- Each turn draws the next column.
 use mathlib.Core.Path.{◌≡◌, refl, sym, ap, ap₂, ◌∙◌, subst}
-use mathlib.Core.List.{List, map}
+use mathlib.Core.List.{map}
 use Prim.Native.Nat.{ℕ, suc, ◌-◌, ◌≤◌, ◌<◌}
 use native.Mathlib.Omega.{arith}
 use lib.IntN.{ℤ}
 use lib.ListN.{length, length-set}
 use mir.Syntax.{w16}
 use mir.ValLaws.{to_z-of_z}
-use borrow.Author.Rules.{rules}
 use Rattle.rules.specs.Numbers.{up_from}
 use Rattle.columns.specs.Columns.{lesser, greater, joined, start, column, run}
 use Rattle.columns.proofs.Columns.{start_zero, start-end}

@@ -1,22 +1,13 @@
 -- Each turn draws the next column.
-use mathlib.Core.Path.{◌≡◌, refl, sym, ap, ap₂, ◌∙◌, subst}
+use mathlib.Core.Path.{◌≡◌}
 use mathlib.Core.List.{List, map}
-use Prim.Native.Nat.{ℕ, suc, ◌-◌, ◌≤◌, ◌<◌}
-use native.Mathlib.Omega.{arith}
+use Prim.Native.Nat.{ℕ, ◌-◌, ◌≤◌}
 use lib.IntN.{ℤ}
-use lib.ListN.{length, length-set}
-use mir.Syntax.{w16}
-use mir.ValLaws.{to_z-of_z}
-use borrow.Author.Rules.{rules}
+use lib.ListN.{length}
 use Rattle.rules.specs.Numbers.{up_from}
-use Rattle.columns.specs.Columns.{lesser, greater, joined, start, column, run}
-use Rattle.columns.proofs.Columns.{start_zero, start-end}
+use Rattle.columns.specs.Columns.{lesser, greater, joined, start, column}
 use Rattle.fills.specs.Fills.{sample_at, over}
-use Rattle.fills.proofs.Sampling.{fewer}
-use Rattle.fills.proofs.Writes.{over_none, map-one}
 use Rattle.tallies.specs.Tallies.{Seen}
-use Rattle.tallies.proofs.Tallying.{seen_none}
-use Rattle.strips.proofs.Telling.{ends}
 use Rattle.strips.proofs.drawing.draw.Given as goal
 
 -- the first q columns

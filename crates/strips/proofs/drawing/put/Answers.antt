@@ -3,7 +3,6 @@ use mathlib.Core.Path.{◌≡◌, refl, sym, ap, ◌∙◌, subst}
 use mathlib.Core.List.{List}
 use Prim.Native.Nat.{ℕ}
 use lib.IntN.{ℤ}
-use borrow.Author.Rules.{rules}
 use Rattle.columns.specs.Columns.{lesser, greater, columns}
 use Rattle.fills.specs.Fills.{Holds, sample_at, over}
 use Rattle.fills.proofs.Sampling.{words, any_order}

@@ -8,7 +8,6 @@ use lib.ListN.{length}
 use mir.Syntax.{w16}
 use mir.Val.{SFits, to_z, of_z}
 use mir.ValLaws.{to_z-of_z}
-use borrow.Author.Rules.{rules}
 use Rattle.rules.specs.Numbers.{bytes, splice, up_from}
 use Rattle.rules.proofs.Numbers.{length-bytes}
 use Rattle.columns.specs.Columns.{lesser, greater, joined, start, column, columns, run}

@@ -1,25 +1,14 @@
 -- Each turn puts the next column.
-use mathlib.Core.Path.{◌≡◌, refl, sym, ap, ap₂, ◌∙◌, subst}
-use mathlib.Core.List.{List, map, flatten, map-map}
-use Prim.Native.Nat.{ℕ, suc, ◌+◌, ◌-◌, ◌*◌, ◌≤◌, ◌<◌}
-use native.Mathlib.Omega.{arith}
+use mathlib.Core.Path.{◌≡◌}
+use mathlib.Core.List.{List, map, flatten}
+use Prim.Native.Nat.{ℕ, ◌-◌, ◌≤◌}
 use lib.IntN.{ℤ}
 use lib.ListN.{length}
-use mir.Syntax.{w16}
-use mir.Val.{SFits, to_z, of_z}
-use mir.ValLaws.{to_z-of_z}
-use borrow.Author.Rules.{rules}
-use Rattle.rules.specs.Numbers.{bytes, splice, up_from}
-use Rattle.rules.proofs.Numbers.{length-bytes}
-use Rattle.columns.specs.Columns.{lesser, greater, joined, start, column, columns, run}
-use Rattle.columns.proofs.Columns.{start_zero, start-end}
+use Rattle.rules.specs.Numbers.{bytes, up_from}
+use Rattle.columns.specs.Columns.{lesser, greater, joined, start, column, columns}
 use Rattle.fills.specs.Fills.{sample_at, over}
-use Rattle.fills.proofs.Sampling.{fewer}
-use Rattle.fills.proofs.Writes.{over_none, run-one}
 use Rattle.tallies.specs.Tallies.{Seen}
-use Rattle.tallies.proofs.Tallying.{seen_none}
-use Rattle.strips.specs.Answers.{unsigned, signed_bytes}
-use Rattle.strips.proofs.Telling.{ends}
+use Rattle.strips.specs.Answers.{unsigned}
 use Rattle.strips.proofs.drawing.put_each.Given as goal
 
 -- the bytes of column j, and of the first q columns

@@ -4,7 +4,6 @@ use Prim.Native.Nat.{ℕ}
 use mir.Syntax.{w16, w64}
 use mir.Val.{to_z, of_z}
 use mir.ValLaws.{to_z-of_z}
-use borrow.Author.Rules.{rules}
 use Rattle.rules.specs.Numbers.{bytes, splice}
 use Rattle.strips.specs.Answers.{unsigned}
 use Rattle.strips.proofs.Twos.{widened}

@@ -9,7 +9,6 @@ use lib.Signed.{le_z}
 use mir.Syntax.{w16}
 use mir.Val.{SFits, to_z, of_z}
 use mir.ValLaws.{to_z-of_z}
-use borrow.Author.Rules.{rules}
 use Rattle.rules.proofs.Numbers.{below-index}
 use Rattle.fills.specs.Fills.{sample_at}
 use Rattle.fills.proofs.Sampling.{fewer, in_word}

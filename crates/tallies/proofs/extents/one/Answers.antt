@@ -3,7 +3,6 @@ use mathlib.Core.Path.{sym, ap, ◌∙◌}
 use native.Mathlib.Nat.{add-zero}
 use mir.Syntax.{w16}
 use mir.ValLaws.{to_z-of_z}
-use borrow.Author.Rules.{rules}
 use Rattle.columns.specs.Columns.{joined}
 use Rattle.tallies.specs.Tallies.{height, heights}
 use Rattle.tallies.proofs.extents.one.Goals as goal

@@ -5,7 +5,6 @@ use Prim.Native.Nat.{ℕ}
 use lib.IntN.{ℤ}
 use mir.Syntax.{w16}
 use mir.ValLaws.{to_z-of_z}
-use borrow.Author.Rules.{rules}
 use Rattle.rules.specs.Points.{at_rail}
 use Rattle.rules.proofs.Numbers.{below-index}
 use Rattle.fills.specs.Fills.{sample_at}

@@ -9,7 +9,6 @@ use Rattle.cuts.specs.Cuts.{number_of, setup_in}
 use Rattle.cuts.proofs.Combining.{combined-number, combined-setup}
 use Rattle.tessarquin.specs.Calls.{setup, setup_numbers, combined_bytes, combined_number, combined_left}
 use Rattle.tessarquin.proofs.Slices.{combined-length, own_refused, own_short, own_left}
-use borrow.Author.Rules.{rules}
 use Rattle.tessarquin.proofs.combining.tessarquin_combined.Goals as goal
 use Rattle.tessarquin.proofs.combining.tessarquin_combined.Goals.{After-combined, In-One}
 

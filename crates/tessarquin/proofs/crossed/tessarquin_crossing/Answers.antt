@@ -6,7 +6,6 @@ use Rattle.crossings.specs.Crossings.{crossing_refusal}
 use Rattle.tessarquin.specs.Calls.{crossing_bytes, crossing_number, crossing_left}
 use Rattle.tessarquin.proofs.Slices.{own_refused, own_short, own_left}
 use Rattle.tessarquin.proofs.Crossing.{crossing-length, number, pair}
-use borrow.Author.Rules.{rules}
 use Rattle.tessarquin.proofs.crossed.tessarquin_crossing.Goals as goal
 use Rattle.tessarquin.proofs.crossed.tessarquin_crossing.Goals.{After-tell-t}
 

@@ -7,7 +7,6 @@ use mir.ValLaws.{to_z-of_z}
 use Rattle.strips.specs.Strips.{strip_refusal}
 use Rattle.strips.specs.Answers.{unsigned}
 use Rattle.tessarquin.proofs.Stripping.{strip-refused, strip-room, strip_answered}
-use borrow.Author.Rules.{rules}
 use Rattle.tessarquin.proofs.drawn.tessarquin_strip.Goals as goal
 use Rattle.tessarquin.proofs.drawn.tessarquin_strip.Goals.{Else-number-ne0}
 

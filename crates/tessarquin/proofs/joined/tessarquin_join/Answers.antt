@@ -1,7 +1,6 @@
 -- Where the second slice is too short, the number of a join that has nowhere to go; else refused as the join is, or answered by n and the length.
 use native.Mathlib.Omega.{arith}
 use Rattle.tessarquin.proofs.Joining.{nowhere, join_refused, join_answered}
-use borrow.Author.Rules.{rules}
 use Rattle.tessarquin.proofs.joined.tessarquin_join.Goals as goal
 
 pub returns-then-answer-lt16 : goal.returns-then-answer-lt16

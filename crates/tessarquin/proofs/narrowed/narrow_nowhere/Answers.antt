@@ -1,6 +1,5 @@
 -- The number of the narrowing, whose output has no bytes.
 use Rattle.narrows.proofs.Calls as calls
-use borrow.Author.Rules.{rules}
 use Rattle.tessarquin.proofs.narrowed.narrow_nowhere.Goals as goal
 
 pub returns : goal.returns

@@ -1,7 +1,6 @@
 -- Where the second slice is too short, the number of a narrowing that has nowhere to go; else refused as the narrowing is, or answered by the length.
 use native.Mathlib.Omega.{arith}
 use Rattle.tessarquin.proofs.Narrowing.{narrow_without_room, narrow-refused, narrow_answered}
-use borrow.Author.Rules.{rules}
 use Rattle.tessarquin.proofs.narrowed.tessarquin_narrow.Goals as goal
 
 pub returns-then-answer-lt8 : goal.returns-then-answer-lt8

@@ -1,14 +1,9 @@
 -- Each turn writes one number more (`number_next`).
-use mathlib.Core.Path.{◌≡◌, refl, ap, ◌∙◌}
-use mathlib.Core.List.{List, flatten}
-use Prim.Native.Nat.{ℕ, ◌+◌, ◌*◌, ◌-◌, ◌≤◌}
-use native.Mathlib.Omega.{arith}
-use lib.ListN.{length, take, get_or}
-use lib.Seq.{take_all}
-use Rattle.rules.specs.Numbers.{bytes, all_bytes, splice}
-use Rattle.rules.proofs.Splices.{splice_none}
+use mathlib.Core.Path.{◌≡◌}
+use Prim.Native.Nat.{◌-◌, ◌≤◌}
+use lib.ListN.{length, take}
+use Rattle.rules.specs.Numbers.{all_bytes, splice}
 use Rattle.tessarquin.proofs.Writing.{number_next}
-use borrow.Author.Rules.{rules}
 use Rattle.tessarquin.proofs.parts.put_ten.Given as goal
 
 abbrev pub invariant-loop-i : goal.invariant-loop-i

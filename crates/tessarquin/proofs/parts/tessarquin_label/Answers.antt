@@ -8,7 +8,6 @@ use Rattle.rules.specs.Rules.{refusal}
 use Rattle.block.proofs.Answers.{number_is}
 use Rattle.tessarquin.specs.Calls.{label_bytes, label_number, label_left}
 use Rattle.tessarquin.proofs.Slices.{label_length, label_other, label_own, own_refused, own_short, own_left}
-use borrow.Author.Rules.{rules}
 use Rattle.tessarquin.proofs.parts.tessarquin_label.Goals as goal
 use Rattle.tessarquin.proofs.parts.tessarquin_label.Goals.{Else-o-ne0}
 

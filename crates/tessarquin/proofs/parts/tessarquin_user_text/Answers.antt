@@ -11,7 +11,6 @@ use Rattle.block.proofs.Answers.{number_is}
 use Rattle.block.proofs.Parts.{span_length}
 use Rattle.tessarquin.specs.Calls.{text_bytes, text_number, text_left}
 use Rattle.tessarquin.proofs.Slices.{pair-length, own_refused, own_short, own_left}
-use borrow.Author.Rules.{rules}
 use Rattle.tessarquin.proofs.parts.tessarquin_user_text.Goals as goal
 use Rattle.tessarquin.proofs.parts.tessarquin_user_text.Goals.{After-shared_slice_known-1, Else-o-ne0}
 
@@ -43,9 +42,9 @@ returns-then-answer-lt16 c =
 
 pub text_span-s-requires : goal.text_span-s-requires
 text_span-s-requires c = record {
-      o_value = c.open-o.ensures;
-      bytes = bytes (goal.at.text_span-s-requires c).After-shared_slice_known-1;
-    }
+  o_value = c.open-o.ensures;
+  bytes = bytes (goal.at.text_span-s-requires c).After-shared_slice_known-1;
+}
 
 pub returns : goal.returns
 unfolding text_number text_left

@@ -11,7 +11,6 @@ use Rattle.setups.proofs.Calls.{read_number, read-setup}
 use Rattle.tessarquin.specs.Calls.{setup_numbers, setup_read_bytes, setup_read_number, setup_read_left}
 use Rattle.tessarquin.proofs.Slices.{own_refused, own_short, own_left}
 use Rattle.tessarquin.proofs.Typing.{read_length}
-use borrow.Author.Rules.{rules}
 use Rattle.tessarquin.proofs.typed.tessarquin_setup_read.Goals as goal
 use Rattle.tessarquin.proofs.typed.tessarquin_setup_read.Goals.{After-read, In-Taken}
 

@@ -2,7 +2,6 @@
 use native.Mathlib.Omega.{arith}
 use Rattle.tessarquin.specs.Calls.{setup}
 use Rattle.tessarquin.proofs.Typing.{write_untold, write_refused, write_answered}
-use borrow.Author.Rules.{rules}
 use Rattle.tessarquin.proofs.typed.tessarquin_setup_write.Goals as goal
 
 pub returns-then-answer-lt8 : goal.returns-then-answer-lt8

@@ -2,7 +2,6 @@
 use native.Mathlib.Omega.{arith}
 use Rattle.cuts.specs.Cuts.{setup_as}
 use Rattle.tessarquin.proofs.Typing.{untold_15, untold_13}
-use borrow.Author.Rules.{rules}
 use Rattle.tessarquin.proofs.typed.unanswered.Goals as goal
 
 pub returns-then-room-length_of : goal.returns-then-room-length_of
