@@ -9,7 +9,7 @@ use mir.Syntax.{w16}
 use mir.Val.{SFits, to_z, of_z}
 use mir.ValLaws.{to_z-of_z}
 use borrow.Author.Rules.{rules}
-use Rattle.rules.specs.Numbers.{bytes, unsigned, signed_bytes, splice, up_from}
+use Rattle.rules.specs.Numbers.{bytes, splice, up_from}
 use Rattle.rules.proofs.Numbers.{length-bytes}
 use Rattle.columns.specs.Columns.{lesser, greater, joined, start, column, columns, run}
 use Rattle.columns.proofs.Columns.{start_zero, start-end}
@@ -18,6 +18,7 @@ use Rattle.fills.proofs.Sampling.{fewer}
 use Rattle.fills.proofs.Writes.{over_none, run-one}
 use Rattle.tallies.specs.Tallies.{Seen}
 use Rattle.tallies.proofs.Tallying.{seen_none}
+use Rattle.strips.specs.Answers.{unsigned, signed_bytes}
 use Rattle.strips.proofs.Telling.{ends}
 use Rattle.strips.proofs.drawing.put_each.Invariants.{bytes_of, first}
 use Rattle.strips.proofs.drawing.put_each.Goals as goal
@@ -58,9 +59,8 @@ column-t-requires c =
 roomy : (c : In-loop-q) → (let l = c.loop-q in (l.q < 16777216) × (l.q * 8 + 8 ≤ length l.lows) × (l.q * 8 + 8 ≤ length l.highs))
 roomy c =
     let l = c.loop-q.invariant in
-    let p = (c.requires.le_columns, c.requires.columns_in_bounds) in
     let h = c.loop-q-test.true in
-    (omega (arith, h, p.0), omega (arith, h, p.1.0, l.3), omega (arith, h, p.1.1, l.4))
+    (omega (arith, h, c.requires.le_columns), omega (arith, h, c.requires.columns_in_bounds.0, l.3), omega (arith, h, c.requires.columns_in_bounds.1, l.4))
 
 pub overflow_mul-q-in-loop-q : goal.overflow_mul-q-in-loop-q
 overflow_mul-q-in-loop-q c = let r = roomy (goal.at.overflow_mul-q-in-loop-q c).In-loop-q in omega (arith, r.0)
@@ -86,13 +86,13 @@ loop-q-preserved c =
     let f : ℕ → ℤ = sample_at a.order a.size a.block.now a.from in
     let h : l.q < a.columns = c.loop-q-test.true in
     let room = c.requires.columns_in_bounds in
-    let low = more lesser f a.count a.columns l.q l.a c.boundary-b.result c.column-t.result.least a.lows.now l.lows _ (record { sfits = c.type_inv.t.0.1 }) c.column-t.ensures.least_value l.invariant.1 e.2 room.0 h l.invariant.5 c.put_signed.ensures in
-    let high = more greater f a.count a.columns l.q l.a c.boundary-b.result c.column-t.result.greatest a.highs.now l.highs _ (record { sfits = c.type_inv.t.1.0.1 }) c.column-t.ensures.greatest_value l.invariant.1 e.2 room.1 h l.invariant.6 c.put_signed-in-loop-q.ensures in (
+    let low = more lesser f a.count a.columns l.q l.a c.boundary-b.result c.column-t.result.least a.lows.now l.lows _ (record { sfits = c.struct_told-1.given.0.1 }) c.column-t.ensures.least_value l.invariant.1 e.2 room.0 h l.invariant.5 c.put_signed.ensures in
+    let high = more greater f a.count a.columns l.q l.a c.boundary-b.result c.column-t.result.greatest a.highs.now l.highs _ (record { sfits = c.struct_told-in-loop-q-1.given.1.0.1 }) c.column-t.ensures.greatest_value l.invariant.1 e.2 room.1 h l.invariant.6 c.put_signed-in-loop-q.ensures in (
       omega (arith, h),
       c.boundary-b.ensures,
       c.column-t.ensures.seen_2,
-      c.put_signed.auto.1.0 ∙ l.invariant.3,
-      c.put_signed-in-loop-q.auto.1.0 ∙ l.invariant.4,
+      c.put_signed.auto.out ∙ l.invariant.3,
+      c.put_signed-in-loop-q.auto.out ∙ l.invariant.4,
       low,
       high,
     )
