@@ -1,28 +1,16 @@
 -- What a call of read left in the buffer (`behind-read`), and what the calls together took from the reader (`taken_more`).
-use Rattle.std.proofs.Common.{◌≡◌, ℕ, zero, suc, ◌+◌, ◌-◌, ◌≤◌, ◌<◌, List, ◌++◌, length, take, drop, refl, sym, ap, ◌∙◌, subst, arith, append_assoc, length-append}
+use Rattle.std.proofs.Common.{◌≡◌, ℕ, zero, suc, ◌+◌, ◌≤◌, List, ◌++◌, length, take, drop, sym, ap, ◌∙◌, subst, append_assoc}
 use Rattle.std.proofs.lemmas.List.{drop-take, take-append-le, take-append-drop, take-take, length-take-le}
 use Rattle.std.proofs.Math.Seq.{drop-append_seam}
 use Rattle.std.specs.Prelude.{Option, None, Some}
 use Rattle.std.specs.Io.KnownBytes.{Consumes}
 use borrow.Rule.Slice.PartMut.{put_mid, post_of}
-use Rattle.listing.specs.Inputs.{moved}
 
 -- 1 where a call moved bytes
 abbrev pub some : Option ℕ → ℕ
 some None = 0
 some (Some zero) = 0
 some (Some (suc n)) = 1
-
-pub some-moved : (o : Option ℕ) → (some o ≤ moved o) × (some o ≤ 1)
-some-moved None = (omega arith, omega arith)
-some-moved (Some zero) = (omega arith, omega arith)
-some-moved (Some (suc n)) = (omega arith, omega arith)
-
--- the loop goes on where some did
-pub some_on : (o : Option ℕ) → 0 < moved o → some o ≡ 1
-some_on None h = absurd (omega arith)
-some_on (Some zero) h = absurd (omega arith)
-some_on (Some (suc n)) h = refl
 
 -- where the part from `at` on became ys, its first n bytes stand there
 pub behind-read : (at k : ℕ) (l ys : List ℕ) (n : ℕ) → at ≤ length l → n ≤ length ys → drop at (take (at + n) (put_mid at k l ys)) ≡ take n ys
@@ -41,10 +29,6 @@ consumes_both None b c bs cs p q = tt
 consumes_both (Some x) None c bs cs p q = absurd p
 consumes_both (Some x) (Some y) None bs cs p q = absurd q
 consumes_both (Some x) (Some y) (Some z) bs cs p q = p ∙ ap (λ (l : List ℕ). bs ++ l) q ∙ sym (append_assoc bs cs z)
-
-pub taken_none : (a : Option (List ℕ)) (l : List ℕ) → Consumes a a (take 0 l)
-taken_none None l = tt
-taken_none (Some x) l = refl
 
 pub taken_more : (a b c : Option (List ℕ)) (at n : ℕ) (l l' : List ℕ) → at ≤ n → n ≤ length l' → take at l' ≡ take at l → Consumes a b (take at l) → Consumes b c (drop at (take n l')) → Consumes a c (take n l')
 taken_more a b c at n l l' h w e p q = subst (Consumes a c) (sym (front_and_more at n l l' h w e)) (consumes_both a b c _ _ p q)

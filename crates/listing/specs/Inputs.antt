@@ -14,13 +14,13 @@ pub record Behind (l : List ℕ) (at : ℕ) (l' : List ℕ) (r : Input) : Type 0
   pub counts : r.count ≡ at + moved r.last
   pub within : r.count ≤ length l'
 
--- there are so many bytes, so that the first n are n
-abbrev pub IsPrefixLen : ℕ → List ℕ → Type 0
-IsPrefixLen n xs = (n ≤ length xs) × (n ≡ length (take n xs))
+-- so many elements are there, and the first so many are as many
+abbrev pub Counts : ℕ → List ℕ → Type 0
+Counts n xs = (n ≤ length xs) × (n ≡ length (take n xs))
 
 -- so many bytes are within the buffer; they fill it where the last call still moved some, so that fewer are there only where it moved none, at the input's end, or failed
 pub record Read (l : List ℕ) (r : Input) : Type 0 where
-  pub within : IsPrefixLen r.count l
+  pub within : Counts r.count l
   pub full : (n : ℕ) → r.last ≡ Some (suc n) → r.count ≡ length l
 
 -- where the reader's bytes are known, the call took those that stand from `at` on in the buffer l', and none only at the input's end

@@ -1,9 +1,6 @@
 -- The first line comes first, and a page comes next; at the end nothing is left.
-use Rattle.std.proofs.Common.{◌≡◌, ◌+◌, ◌≤◌, length, take, sym, ap, ◌∙◌, subst, arith}
-use Rattle.std.specs.Bool.{OnTrue}
-use Rattle.std.specs.Io.KnownBytes.{Appends}
+use Rattle.std.proofs.Common.{sym, subst, arith}
 use Rattle.rules.proofs.Numbers.{below-index}
-use Rattle.listing.specs.Listing.{listing}
 use Rattle.listing.proofs.Printed.{Before, first_next, page_next, all-sent, first_taken, more_taken, all-taken}
 use Rattle.listing.proofs.print.Goals as goal
 

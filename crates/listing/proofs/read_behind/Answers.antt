@@ -1,5 +1,5 @@
 -- The part from `at` on becomes what the call left there.
-use Rattle.std.proofs.Common.{◌≡◌, length, ◌-◌, sym, subst, arith}
+use Rattle.std.proofs.Common.{length, ◌-◌, sym, subst, arith}
 use Rattle.std.specs.Io.KnownBytes.{Consumes}
 use Rattle.listing.proofs.Inputs.{behind-read}
 use Rattle.listing.proofs.read_behind.Goals as goal

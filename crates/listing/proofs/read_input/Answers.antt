@@ -1,5 +1,5 @@
 -- Each call reads behind what is there.
-use Rattle.std.proofs.Common.{◌+◌, ◌≤◌, length, arith}
+use Rattle.std.proofs.Common.{arith}
 use Rattle.listing.proofs.Inputs.{taken_more}
 use Rattle.listing.proofs.read_input.Goals as goal
 

@@ -1,7 +1,6 @@
 -- By the length, then by the block's number.
 use Rattle.listing.proofs.Texts.{worded}
 use Rattle.listing.proofs.Rests.{front_long, front-refused, front-first}
-use borrow.Author.Rules.{rules}
 use Rattle.listing.proofs.pages.put_front.Goals as goal
 
 pub returns-then-block-gt-MOST : goal.returns-then-block-gt-MOST

@@ -1,16 +1,15 @@
 -- Line after line; what is written and what is left are always what was left at first.
 use mathlib.Core.Path.{◌≡◌, refl, sym, ap, ◌∙◌}
 use mathlib.Core.List.{List, ◌++◌, append_assoc}
-use Prim.Native.Nat.{ℕ, zero, suc, ◌+◌, ◌-◌, ◌≤◌, ◌<◌}
+use Prim.Native.Nat.{ℕ, zero, suc, ◌<◌}
 use native.Mathlib.Omega.{arith}
-use lib.ListN.{length, take}
+use lib.ListN.{take}
 use borrow.Author.Tests.{leb-true, leb-false}
 use Rattle.rules.specs.Rules.{opened}
 use Rattle.listing.specs.declared.pages.Spot.{Spot}
 use Rattle.listing.specs.Listing.{point_line}
-use Rattle.listing.specs.Pages.{line_room, Stands, rest}
+use Rattle.listing.specs.Pages.{rest}
 use Rattle.listing.proofs.Texts.{taken}
-use borrow.Author.Rules.{rules}
 use Rattle.listing.proofs.pages.put_page.Goals as goal
 
 started : (n : ℕ) → (n ≡ 0 → ⊥) → 0 < n
