@@ -9,21 +9,21 @@
 SHELL := /bin/bash
 .SHELLFLAGS := -eu -o pipefail -c
 MAKEFLAGS += --no-print-directory
-.PHONY: list test archive host checked listed compare soak bench fmt need-kit need-c need-compare need-tests need-count
+.PHONY: list listing test archive host checked listed compare soak bench fmt need-kit need-c need-compare need-tests need-count
 
 # The compiled code is for x86-64: elsewhere it is linked by a cross compiler and run by an emulator.
 ifeq ($(shell uname -m),x86_64)
 CC := gcc
 CXX := g++
 RUN :=
-LISTING := target/bin/listing
+LISTING := crates/listing/out/listing
 NEED_C := gcc:gcc
 NEED_CXX := g++:g++
 else
 CC := x86_64-linux-gnu-gcc
 CXX := x86_64-linux-gnu-g++
 RUN := qemu-x86_64
-LISTING := qemu-x86_64 -L /usr/x86_64-linux-gnu target/bin/listing
+LISTING := qemu-x86_64 -L /usr/x86_64-linux-gnu crates/listing/out/listing
 NEED_C := x86_64-linux-gnu-gcc:gcc-x86-64-linux-gnu qemu-x86_64:qemu-user
 NEED_CXX := x86_64-linux-gnu-g++:g++-x86-64-linux-gnu
 endif
@@ -37,10 +37,13 @@ CARGO := --release --offline --locked --manifest-path tests/Cargo.toml --target-
 SEED ?= 1
 N ?= 100000
 
-list: need-kit $(if $(RUN),need-c)
-	@mkdir -p target
-	@rt check listing >target/listing.log 2>&1 || { cat target/listing.log; exit 1; }
+list: listing $(if $(RUN),need-c)
 	@$(LISTING) <'$(FILE)'
+
+# The listing program, proved and linked again where something changed.
+listing: need-kit
+	@mkdir -p target
+	@(cd crates/listing && rt run) </dev/null >target/listing.log 2>&1 || { cat target/listing.log; exit 1; }
 
 # The last line is that of rt ci. What it proved is not proved again, but for the crates of the three archives.
 test: need-tests
@@ -108,8 +111,7 @@ checked: need-tests host target/host/made target/host/sample target/host/table t
 	@target/tests/release/compare --cases 40000 --seed 1 -- $(RUN) target/tests/runner
 
 # The listing program on blocks, on what is refused and on what is too long, against stored texts.
-listed: need-kit target/host/made
-	@rt check listing >target/listing.log 2>&1 || { cat target/listing.log; exit 1; }
+listed: listing target/host/made
 	@host/tests/listed/run '$(LISTING)' '$(RUN) target/host/made' crates/listing
 
 # The independent reader and the runner that makes the calls, those that are not in the library among them.

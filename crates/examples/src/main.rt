@@ -13,12 +13,13 @@ mod narrowings;
 mod reached;
 mod typed;
 
-fn main() {
-    judged::all();
-    choices::all();
-    marks::all();
-    reached::all();
-    drawings::all();
-    narrowings::all();
-    typed::all();
+fn main(rt: HostRuntime) {
+    let stdout = rt.stdout();
+    judged::all(stdout);
+    choices::all(stdout);
+    marks::all(stdout);
+    reached::all(stdout);
+    drawings::all(stdout);
+    narrowings::all(stdout);
+    typed::all(stdout);
 }

@@ -1,44 +1,34 @@
--- What a call of read answered, by cases: none (`ended`) or some (`goes_on`), and the bytes that it moved (`counted`).
-use mathlib.Core.Path.{◌≡◌, refl, sym, ap, ◌∙◌}
-use mathlib.Core.Bool.{true, false}
-use Prim.Native.Nat.{ℕ, zero, suc, ◌≤◌}
-use native.Mathlib.Nat.{min-eq_left}
-use native.Mathlib.Omega.{arith}
-use lib.IntN.{ℤ, pos, negsuc}
-use lib.Signed.{lt_z}
-use mir.Syntax.{w64}
-use mir.Val.{SFits, to_z, of_z}
-use mir.Facts.{to_z-of_z}
-use borrow.Author.Tests.{ltb-false}
-use Rattle.libc.specs.Io.{Moved}
-use Rattle.io.specs.Counts.{clamp_len}
-use Rattle.listing.specs.Inputs.{moved}
+-- What a call of read left in the buffer (`behind-read`), and what the calls together took from the reader (`taken_more`).
+use Rattle.std.proofs.Common.{◌≡◌, ℕ, zero, suc, ◌+◌, ◌≤◌, List, ◌++◌, length, take, drop, sym, ap, ◌∙◌, subst, append_assoc}
+use Rattle.std.proofs.lemmas.List.{drop-take, take-append-le, take-append-drop, take-take, length-take-le}
+use Rattle.std.proofs.Math.Seq.{drop-append_seam}
+use Rattle.std.specs.Prelude.{Option, None, Some}
+use Rattle.std.specs.Io.KnownBytes.{Consumes}
+use borrow.Rule.Slice.PartMut.{put_mid, post_of}
 
 -- 1 where a call moved bytes
-abbrev pub some : ℤ → ℕ
-some (pos zero) = 0
-some (pos (suc n)) = 1
-some (negsuc n) = 0
+abbrev pub some : Option ℕ → ℕ
+some None = 0
+some (Some zero) = 0
+some (Some (suc n)) = 1
 
-pub some-moved : (z : ℤ) → (some z ≤ moved z) × (some z ≤ 1)
-some-moved (pos zero) = (omega arith, omega arith)
-some-moved (pos (suc n)) = (omega arith, omega arith)
-some-moved (negsuc n) = (omega arith, omega arith)
+-- where the part from `at` on became ys, its first n bytes stand there
+pub behind-read : (at k : ℕ) (l ys : List ℕ) (n : ℕ) → at ≤ length l → n ≤ length ys → drop at (take (at + n) (put_mid at k l ys)) ≡ take n ys
+behind-read at k l ys n h w =
+    let front : length (take at l) ≡ at = length-take-le at l h in
+    drop-take at n (put_mid at k l ys) ∙ ap (take n) (subst (λ (m : ℕ). drop m (put_mid at k l ys) ≡ ys ++ post_of at k l) front (drop-append_seam (take at l) (ys ++ post_of at k l)))
+    ∙ take-append-le n ys (post_of at k l) w
 
--- the loop's test, of the answer as it is held in 64 bits
-module _ (z : ℤ) (f : SFits w64 z) where
-  pub goes_on : lt_z (pos 0) (to_z w64 (of_z w64 z)) ≡ true → some z ≡ 1
-  goes_on t = go z (sym (ap (lt_z (pos 0)) (to_z-of_z f)) ∙ t)
-    where
-      go : (z : ℤ) → lt_z (pos 0) z ≡ true → some z ≡ 1
-      go (pos zero) t = let e : ◌≡◌ {A = ℕ} 0 1 = cc in absurd (omega arith)
-      go (pos (suc n)) t = refl
-      go (negsuc n) t = let e : ◌≡◌ {A = ℕ} 0 1 = cc in absurd (omega arith)
+-- what was taken before stands in front of what a call took
+front_and_more : (at n : ℕ) (l l' : List ℕ) → at ≤ n → n ≤ length l' → take at l' ≡ take at l → take n l' ≡ take at l ++ drop at (take n l')
+front_and_more at n l l' h w e =
+    sym (take-append-drop at (take n l')) ∙ ap (λ (x : List ℕ). x ++ drop at (take n l')) (take-take at n l' h ∙ e)
 
-  pub ended : lt_z (pos 0) (to_z w64 (of_z w64 z)) ≡ false → (n : ℕ) → z ≡ pos (suc n) → ⊥
-  ended t n e = omega (arith, ltb-false 0 (suc n) (sym (ap (lt_z (pos 0)) e) ∙ sym (ap (lt_z (pos 0)) (to_z-of_z f)) ∙ t))
+consumes_both : (a b c : Option (List ℕ)) (bs cs : List ℕ) → Consumes a b bs → Consumes b c cs → Consumes a c (bs ++ cs)
+consumes_both None b c bs cs p q = tt
+consumes_both (Some x) None c bs cs p q = absurd p
+consumes_both (Some x) (Some y) None bs cs p q = absurd q
+consumes_both (Some x) (Some y) (Some z) bs cs p q = p ∙ ap (λ (l : List ℕ). bs ++ l) q ∙ sym (append_assoc bs cs z)
 
--- a count of at most n bytes, where a call was lent m of them, is what it moved
-pub counted : (z : ℤ) (m n : ℕ) → Moved m z → m ≤ n → clamp_len z n ≡ moved z
-counted (pos k) m n h l = min-eq_left (omega arith)
-counted (negsuc k) m n h l = refl
+pub taken_more : (a b c : Option (List ℕ)) (at n : ℕ) (l l' : List ℕ) → at ≤ n → n ≤ length l' → take at l' ≡ take at l → Consumes a b (take at l) → Consumes b c (drop at (take n l')) → Consumes a c (take n l')
+taken_more a b c at n l l' h w e p q = subst (Consumes a c) (sym (front_and_more at n l l' h w e)) (consumes_both a b c _ _ p q)

@@ -1,11 +1,14 @@
 -- What is handed on is what comes next in the listing (`first_next`, `page_next`), at the end all of it (`all-sent`): the calls of `write_next`, one behind the other, are handed the listing (`printed`).
-use mathlib.Core.Path.{◌≡◌, refl, sym, ap, ap₂, ◌∙◌}
-use mathlib.Core.Bool.{true}
-use mathlib.Core.List.{List, [], ◌++◌}
+use mathlib.Core.Path.{◌≡◌, refl, sym, ap, ap₂, ◌∙◌, subst}
+use mathlib.Core.Bool.{Bool, true, false}
+use mathlib.Core.List.{List, [], ◌++◌, append_assoc}
 use Prim.Native.Nat.{ℕ, zero, suc, ◌+◌, ◌*◌, ◌≤◌}
 use native.Mathlib.Omega.{arith}
 use lib.ListN.{length, take, drop, length-append, length-drop}
 use lib.Seq.{take-append_seam, drop-append_seam, drop-drop, take-add, take-length}
+use Rattle.std.specs.Prelude.{Option, None, Some}
+use Rattle.std.specs.Bool.{OnTrue}
+use Rattle.std.specs.Io.KnownBytes.{Appends}
 use Rattle.rules.specs.Numbers.{Bytes}
 use Rattle.rules.specs.Rules.{opened}
 use Rattle.listing.specs.declared.pages.Spot.{Spot}
@@ -95,3 +98,31 @@ started {s} (more {sent} {bs} {bytes} w n) = ap₂ {C = List ℕ} (λ x y. x ++ 
 -- and, where `print` answers that all were taken, the listing
 pub printed : {s bs : List ℕ} {sent : ℕ} → Handed s sent bs → Printed s sent true → bs ≡ listing s
 printed {s} w p = started w ∙ ap (λ (n : ℕ). take n (listing s)) (p.all refl) ∙ take-length (listing s)
+
+-- ---- what the writer took, where its bytes are known
+
+appends_both : (a b c : Option (List ℕ)) (bs cs : List ℕ) → Appends a b bs → Appends b c cs → Appends a c (bs ++ cs)
+appends_both None b c bs cs p q = tt
+appends_both (Some x) None c bs cs p q = absurd p
+appends_both (Some x) (Some y) None bs cs p q = absurd q
+appends_both (Some x) (Some y) (Some z) bs cs p q = q ∙ ap (λ (l : List ℕ). l ++ cs) p ∙ append_assoc x bs cs
+
+next_taken : (s bs : List ℕ) (sent now : ℕ) → Next s sent bs → now ≡ sent + length bs → take now (listing s) ≡ take sent (listing s) ++ bs
+next_taken s bs sent now n e = ap (λ (m : ℕ). take m (listing s)) e ∙ take-add sent (length bs) (listing s) ∙ ap (λ (x : List ℕ). take sent (listing s) ++ x) (sym n)
+
+-- the first bytes are the listing's first
+pub first_taken : (s bs : List ℕ) (sent now : ℕ) (r : Bool) (a b : Option (List ℕ)) → sent ≡ 0 → Next s sent bs → now ≡ sent + length bs → OnTrue r (Appends a b bs) → OnTrue r (Appends a b (take now (listing s)))
+first_taken s bs sent now r a b z n e p =
+    subst (λ (x : List ℕ). OnTrue r (Appends a b x)) (sym (next_taken s bs sent now n e ∙ ap (λ (m : ℕ). take m (listing s) ++ bs) z)) p
+
+-- and those of a later call come behind them
+pub more_taken : (s bs : List ℕ) (sent now : ℕ) (t r : Bool) (a b c : Option (List ℕ)) → Next s sent bs → now ≡ sent + length bs → t ≡ true → OnTrue t (Appends a b (take sent (listing s))) → OnTrue r (Appends b c bs)
+    → OnTrue r (Appends a c (take now (listing s)))
+more_taken s bs sent now t true a b c n e i p q =
+    let before : Appends a b (take sent (listing s)) = subst (λ (u : Bool). OnTrue u (Appends a b (take sent (listing s)))) i p in
+    subst (Appends a c) (sym (next_taken s bs sent now n e)) (appends_both a b c (take sent (listing s)) bs before q)
+more_taken s bs sent now t false a b c n e i p q = tt
+
+-- at the end all of it
+pub all-taken : (s : List ℕ) (sent : ℕ) (r : Bool) (a b : Option (List ℕ)) → sent ≡ length (listing s) → OnTrue r (Appends a b (take sent (listing s))) → OnTrue r (Appends a b (listing s))
+all-taken s sent r a b e p = subst (λ (x : List ℕ). OnTrue r (Appends a b x)) (ap (λ (n : ℕ). take n (listing s)) e ∙ take-length (listing s)) p

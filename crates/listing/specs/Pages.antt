@@ -1,5 +1,5 @@
 -- A listing written piece by piece: what a call writes over a buffer, where a listing stands, and what is left of it there. Definitions only.
-use Rattle.std.specs.Prelude.{◌≡◌, cond, ℕ, zero, suc, ◌+◌, ◌-◌, ◌≤◌, ◌<◌, length, take, ltb}
+use Rattle.std.specs.Prelude.{◌≡◌, cond, ℕ, zero, suc, ◌-◌, ◌≤◌, ◌<◌, length, take, ltb}
 use mathlib.Core.List.{List, [], ◌++◌, map, flatten}
 use Rattle.rules.specs.Numbers.{up_from}
 use Rattle.rules.specs.Wave.{Wave, segments}

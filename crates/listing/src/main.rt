@@ -6,90 +6,105 @@ mod pages;
 mod text;
 
 ghost use Rattle.std.specs.Prelude.{◌≡◌, ◌+◌, ◌^◌, ◌≤◌, ◌<◌, length};
-ghost use Rattle.listing.specs.Inputs.{Behind, Read};
+ghost use Rattle.std.specs.Bool.{OnTrue};
+ghost use Rattle.std.specs.Io.KnownBytes.{Appends};
+ghost use Rattle.listing.specs.Inputs.{Behind, Read, TakesBehind, TakesTo};
+ghost use Rattle.listing.specs.Listing.{listing};
 ghost use Rattle.listing.specs.Outputs.{Next, Printed};
 
-use libc::{STDERR_FILENO, STDIN_FILENO, STDOUT_FILENO};
+use std::io;
 
-// What was read: so many bytes at the buffer's start, and what the last call of read answered.
+// What was read: so many bytes at the buffer's start, and how many of them the last call of read moved, `None` where it
+// failed.
 #[derive(Clone, Copy)]
 struct Input {
     count: usize,
-    last: isize,
+    last: Option<usize>,
 }
 
 // Prints the listing of the block on standard input.
-fn main() {
+fn main(rt: HostRuntime) {
     // one byte more than is listed, so that longer input is seen
     let mut buffer = [0u8; 65537];
-    let input = read_input(&mut buffer);
-    if input.last < 0 {
-        io::write_all(STDERR_FILENO, b"listing: standard input cannot be read\n");
+    let input = read_input(&mut rt.stdin(), &mut buffer);
+    if input.last.is_none() {
+        let _ = rt.eprintln("listing: standard input cannot be read");
         return;
     }
     let count = input.count;
     let mut sent = 0;
-    if !print(&buffer[..count], &mut sent) {
-        io::write_all(
-            STDERR_FILENO,
-            b"listing: standard output cannot be written\n",
-        );
+    if !print(&buffer[..count], &mut rt.stdout(), &mut sent) {
+        let _ = rt.eprintln("listing: standard output cannot be written");
     }
 }
 
-// Reads standard input to its end, or until the buffer is full or a read fails.
-fn read_input(buffer: &mut [u8]) -> Input
-    ensures { Read buffer.new result }
+// Reads the input to its end, or until the buffer is full or a read fails.
+fn read_input<R: io::Read>(reader: &mut R, buffer: &mut [u8]) -> Input
+    ensures read { Read buffer.new result }
+    ensures bytes { TakesTo (R.remaining reader.old) (R.remaining reader.new) buffer.new result }
 {
     // no call yet: as if the last one had moved a byte
-    let mut input = Input { count: 0, last: 1 };
-    while input.last > 0 && input.count < buffer.len() {
+    let mut input = Input {
+        count: 0,
+        last: Some(1),
+    };
+    while input.last.unwrap_or(0) > 0 && input.count < buffer.len() {
         let at = input.count;
-        input = read_behind(buffer, at);
+        input = read_behind(reader, buffer, at);
     }
     input
 }
 
-// Reads some of standard input to the buffer from `at` on: no bytes at its end.
-fn read_behind(buffer: &mut [u8], at: usize) -> Input
+// Reads some of the input to the buffer from `at` on: no bytes at its end.
+fn read_behind<R: io::Read>(reader: &mut R, buffer: &mut [u8], at: usize) -> Input
     requires { at ≤ length buffer.old }
-    ensures { Behind buffer.old at buffer.new result }
+    ensures behind { Behind buffer.old at buffer.new result }
+    ensures bytes { TakesBehind (R.remaining reader.old) (R.remaining reader.new) at buffer.new result }
 {
-    let last = libc::read(STDIN_FILENO, &mut buffer[at..]);
-    let more = io::count(last, &buffer[at..]);
-    Input {
-        count: at + more,
-        last,
+    match reader.read(&mut buffer[at..]) {
+        Ok(more) => Input {
+            count: at + more,
+            last: Some(more),
+        },
+        Err(_) => Input {
+            count: at,
+            last: None,
+        },
     }
 }
 
-// Writes the listing of a block to standard output, page by page, and answers whether all of it was taken. `sent` counts
-// the bytes handed on.
-fn print(block: &[u8], sent: &mut usize) -> bool
+// Writes the listing of a block to the output, page by page, and answers whether all of it was taken. `sent` counts the
+// bytes handed on.
+fn print<W: io::Write>(block: &[u8], writer: &mut W, sent: &mut usize) -> bool
     requires { sent.old ≡ 0 }
-    ensures { Printed block.now sent.new result }
+    ensures printed { Printed block.now sent.new result }
+    ensures bytes { OnTrue result (Appends (W.contents writer.old) (W.contents writer.new) (listing block.now)) }
 {
-    let mut page = io::buffer();
+    let mut page = [0u8; 4096];
     let out: &mut [u8] = &mut page;
     let first = pages::put_front(block, out);
     let mut spot = pages::begin(block);
-    let mut going = write_next(block, &out[..first], sent);
+    let mut going = write_next(block, &out[..first], writer, sent);
     while going && spot.place.refusal == 0 {
         let written = pages::put_page(block, spot, out);
         let count = written.count;
-        going = write_next(block, &out[..count], sent);
+        going = write_next(block, &out[..count], writer, sent);
         spot = written.spot;
     }
     going
 }
 
-// Hands the next bytes of a block's listing to standard output, counts them, and answers whether they were taken. Nothing
-// else writes there.
-fn write_next(block: &[u8], bytes: &[u8], sent: &mut usize) -> bool
+// Hands the next bytes of a block's listing to the output, counts them, and answers whether they were taken. Nothing else
+// writes there.
+fn write_next<W: io::Write>(block: &[u8], bytes: &[u8], writer: &mut W, sent: &mut usize) -> bool
     requires next { Next block.now sent.old bytes.now }
     requires bytes_bound { sent.old + length bytes.now < 2 ^ 64 }
-    ensures { sent.new ≡ sent.old + length bytes.now }
+    ensures sent { sent.new ≡ sent.old + length bytes.now }
+    ensures taken { OnTrue result (Appends (W.contents writer.old) (W.contents writer.new) bytes.now) }
 {
     *sent += bytes.len();
-    io::write_all(STDOUT_FILENO, bytes)
+    match writer.write_all(bytes) {
+        Ok(()) => true,
+        Err(_) => false,
+    }
 }

@@ -1,19 +1,17 @@
--- Each call reads behind what is there; the count grows until one moves nothing or the buffer is full.
-use mathlib.Core.Path.{◌≡◌, refl, sym, ◌∙◌}
-use mathlib.Core.List.{List}
-use Prim.Native.Nat.{ℕ, ◌+◌, ◌-◌, ◌≤◌}
-use native.Mathlib.Omega.{arith}
-use lib.ListN.{length}
-use lib.Seq.{length-take-le}
-use mir.Syntax.{w64}
-use mir.Val.{SFits}
-use borrow.Author.Tests.{ltb-false}
-use Rattle.io.specs.Counts.{IsPrefixLen}
-use Rattle.listing.proofs.Inputs.{some, some-moved, goes_on, ended}
+-- The count grows until a call moves nothing or fails, or the buffer is full; what is there was taken from the reader.
+use Rattle.std.proofs.Common.{◌≡◌, ◌+◌, ◌-◌, ◌≤◌, ◌<◌, length, take}
+use Rattle.std.specs.Prelude.{Some}
+use Rattle.std.specs.Io.KnownBytes.{Consumes, IsAtEnd}
+use Rattle.listing.proofs.Inputs.{some}
 use Rattle.listing.proofs.read_input.Given as goal
 
-abbrev pub invariant-loop-input : goal.invariant-loop-input
-invariant-loop-input l = (l.input.count ≤ length l.buffer) × (length l.buffer ≡ length l.initial.buffer)
+abbrev pub invariant-loop-at : goal.invariant-loop-at
+invariant-loop-at g l = record {
+  within : l.input.count ≤ length l.buffer;
+  same : length l.buffer ≡ length l.initial.buffer;
+  taken : Consumes (g.R.Read.remaining l.initial.reader) (g.R.Read.remaining l.reader) (take l.input.count l.buffer);
+  ended : l.input.last ≡ Some 0 → l.input.count < length l.buffer → IsAtEnd (g.R.Read.remaining l.reader);
+}
 
-abbrev pub decreases-loop-input : goal.decreases-loop-input
-decreases-loop-input l = length l.buffer - l.input.count + some l.input.last
+abbrev pub decreases-loop-at : goal.decreases-loop-at
+decreases-loop-at g l = length l.buffer - l.input.count + some l.input.last

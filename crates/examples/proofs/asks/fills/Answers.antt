@@ -1,7 +1,6 @@
 -- The room is no larger than the array.
 use mathlib.Core.Path.{sym}
 use lib.Seq.{length-take-le}
-use borrow.Author.Rules.{rules}
 use Rattle.examples.proofs.asks.fills.Goals as goal
 
 pub slice_bounds-fill-end : goal.slice_bounds-fill-end

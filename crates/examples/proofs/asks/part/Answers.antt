@@ -1,7 +1,6 @@
 -- The part is as long as its end says.
 use mathlib.Core.Path.{sym}
 use lib.Seq.{length-take-le}
-use borrow.Author.Rules.{rules}
 use Rattle.examples.proofs.asks.part.Goals as goal
 
 pub slice_bounds-result-end : goal.slice_bounds-result-end

@@ -4,7 +4,6 @@ use Prim.Native.Nat.{ℕ}
 use native.Mathlib.Omega.{arith}
 use Rattle.digits.specs.Digits.{decimal}
 use Rattle.listing.proofs.Texts.{word_line}
-use borrow.Author.Rules.{rules}
 use Rattle.listing.proofs.lines.put_first.Goals as goal
 
 pub returns : goal.returns

@@ -5,7 +5,6 @@ use native.Mathlib.Omega.{arith}
 use Rattle.rules.specs.Points.{mark_number}
 use Rattle.digits.specs.Digits.{decimal, hex}
 use Rattle.listing.proofs.Texts.{word_line}
-use borrow.Author.Rules.{rules}
 use Rattle.listing.proofs.lines.put_point.Goals as goal
 
 pub returns : goal.returns

@@ -6,7 +6,6 @@ use native.Mathlib.Omega.{arith}
 use Rattle.listing.specs.Listing.{refused_line}
 use Rattle.copies.specs.Copies.{Wrote}
 use Rattle.copies.proofs.Laws.{behind}
-use borrow.Author.Rules.{rules}
 use Rattle.listing.proofs.lines.put_refused.Goals as goal
 
 abbrev word : List ℕ

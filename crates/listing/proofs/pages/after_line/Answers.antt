@@ -10,7 +10,6 @@ use Rattle.listing.specs.declared.pages.Spot.{Spot}
 use Rattle.listing.specs.Listing.{point_line}
 use Rattle.listing.specs.Pages.{Stands, rest}
 use Rattle.listing.proofs.Rests.{stands_at, segment-small, goes_on, goes_over}
-use borrow.Author.Rules.{rules}
 use Rattle.listing.proofs.pages.after_line.Goals as goal
 use Rattle.listing.proofs.pages.after_line.Goals.{After-shared_slice_known-1}
 

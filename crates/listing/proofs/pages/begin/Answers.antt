@@ -2,7 +2,6 @@
 use Rattle.rules.specs.Numbers.{Bytes}
 use Rattle.rules.proofs.Numbers.{below-index}
 use Rattle.listing.proofs.Rests.{whole_long, whole_short, behind-first}
-use borrow.Author.Rules.{rules}
 use Rattle.listing.proofs.pages.begin.Goals as goal
 use Rattle.listing.proofs.pages.begin.Goals.{After-shared_slice_known-1}
 

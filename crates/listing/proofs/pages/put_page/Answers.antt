@@ -1,16 +1,15 @@
 -- Line after line; what is written and what is left are always what was left at first.
 use mathlib.Core.Path.{◌≡◌, refl, sym, ap, ◌∙◌}
 use mathlib.Core.List.{List, ◌++◌, append_assoc}
-use Prim.Native.Nat.{ℕ, zero, suc, ◌+◌, ◌-◌, ◌≤◌, ◌<◌}
+use Prim.Native.Nat.{ℕ, zero, suc, ◌<◌}
 use native.Mathlib.Omega.{arith}
-use lib.ListN.{length, take}
+use lib.ListN.{take}
 use borrow.Author.Tests.{leb-true, leb-false}
 use Rattle.rules.specs.Rules.{opened}
 use Rattle.listing.specs.declared.pages.Spot.{Spot}
 use Rattle.listing.specs.Listing.{point_line}
-use Rattle.listing.specs.Pages.{line_room, Stands, rest}
+use Rattle.listing.specs.Pages.{rest}
 use Rattle.listing.proofs.Texts.{taken}
-use borrow.Author.Rules.{rules}
 use Rattle.listing.proofs.pages.put_page.Goals as goal
 
 started : (n : ℕ) → (n ≡ 0 → ⊥) → 0 < n
@@ -22,16 +21,16 @@ loop-here-init c = (refl, omega arith, omega arith, c.requires.stands, refl, λ 
 
 pub put_line-at-requires : goal.put_line-at-requires
 put_line-at-requires c = let l = c.loop-here in record {
-      stands = l.invariant.3;
-      refusal_value = c.loop-here-test.true;
-      line_room_in_bounds = omega (arith, leb-true l.at _ c.if-at-last.true-raw, l.invariant.0, l.invariant.1);
-    }
+  stands = l.invariant.3;
+  refusal_value = c.loop-here-test.true;
+  line_room_in_bounds = omega (arith, leb-true l.at _ c.if-at-last.true-raw, l.invariant.0, l.invariant.1);
+}
 
 pub after_line-here-requires : goal.after_line-here-requires
 after_line-here-requires c = record {
-      stands = c.loop-here.invariant.3;
-      refusal_value = c.loop-here-test.true;
-    }
+  stands = c.loop-here.invariant.3;
+  refusal_value = c.loop-here-test.true;
+}
 
 pub loop-here-smaller : goal.loop-here-smaller
 loop-here-smaller c =
@@ -49,8 +48,8 @@ loop-here-preserved c =
       k ∙ l.invariant.0,
       l.invariant.1,
       omega (arith, k, c.put_line-at.ensures.lower_bound.1, leb-true l.at _ c.if-at-last.true-raw, l.invariant.0, l.invariant.1),
-      c.after_Line.ensures.0,
-      l.invariant.4 ∙ ap (λ (x : List ℕ). take l.at l.out ++ x) c.after_Line.ensures.1 ∙ sym (append_assoc (take l.at l.out) bs (rest s c.after_Line.result)) ∙ ap (λ (x : List ℕ). x ++ rest s c.after_Line.result) (sym (taken w l.invariant.2)),
+      c.after_line-here.ensures.stands_2,
+      l.invariant.4 ∙ ap (λ (x : List ℕ). take l.at l.out ++ x) c.after_line-here.ensures.spot_value ∙ sym (append_assoc (take l.at l.out) bs (rest s c.after_line-here.result)) ∙ ap (λ (x : List ℕ). x ++ rest s c.after_line-here.result) (sym (taken w l.invariant.2)),
       λ z. absurd (omega (arith, c.put_line-at.ensures.lower_bound.0)),
     )
 

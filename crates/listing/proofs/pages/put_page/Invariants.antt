@@ -1,16 +1,9 @@
 -- Line after line; what is written and what is left are always what was left at first.
-use mathlib.Core.Path.{◌≡◌, refl, sym, ap, ◌∙◌}
-use mathlib.Core.List.{List, ◌++◌, append_assoc}
-use Prim.Native.Nat.{ℕ, zero, suc, ◌+◌, ◌-◌, ◌≤◌, ◌<◌}
-use native.Mathlib.Omega.{arith}
+use mathlib.Core.Path.{◌≡◌}
+use mathlib.Core.List.{◌++◌}
+use Prim.Native.Nat.{◌+◌, ◌-◌, ◌≤◌}
 use lib.ListN.{length, take}
-use borrow.Author.Tests.{leb-true, leb-false}
-use Rattle.rules.specs.Rules.{opened}
-use Rattle.listing.specs.declared.pages.Spot.{Spot}
-use Rattle.listing.specs.Listing.{point_line}
 use Rattle.listing.specs.Pages.{line_room, Stands, rest}
-use Rattle.listing.proofs.Texts.{taken}
-use borrow.Author.Rules.{rules}
 use Rattle.listing.proofs.pages.put_page.Given as goal
 
 abbrev pub invariant-loop-here : goal.invariant-loop-here

@@ -1,7 +1,6 @@
 -- The segment and its place.
 use mathlib.Core.Path.{ap}
 use Rattle.points.specs.declared.walk.Place.{Place}
-use borrow.Author.Rules.{rules}
 use Rattle.listing.proofs.pages.spot_at.Goals as goal
 
 pub returns : goal.returns

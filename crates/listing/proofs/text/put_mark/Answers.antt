@@ -6,7 +6,6 @@ use native.Mathlib.Omega.{arith}
 use Rattle.rules.specs.Points.{mark_number}
 use Rattle.digits.specs.Digits.{spelled}
 use Rattle.listing.proofs.Texts.{places-mark, worded}
-use borrow.Author.Rules.{rules}
 use Rattle.listing.proofs.text.put_mark.Goals as goal
 
 pub returns : goal.returns

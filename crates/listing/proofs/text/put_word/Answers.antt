@@ -7,7 +7,6 @@ use lib.ListN.{length, set, length-append}
 use Rattle.digits.specs.Digits.{spelled}
 use Rattle.digits.proofs.Spelled.{length-spelled}
 use Rattle.listing.proofs.Texts.{set_last}
-use borrow.Author.Rules.{rules}
 use Rattle.listing.proofs.text.put_word.Goals as goal
 
 pub returns : goal.returns
