@@ -3,7 +3,7 @@
 use mathlib.Core.List.{List}
 use Prim.Native.Nat.{ℕ}
 use contract.Lifetimes.{Lfts}
-use denote.Ref.{Bor, at_last as holding}
+use denote.Ref.{Bor}
 use Rattle.block.specs.declared.Opened.{Opened}
 use Rattle.block.proofs.opening.open.Reads as open-reads
 use Rattle.block.proofs.texts.user_text.Reads as text-reads
@@ -11,7 +11,7 @@ use Rattle.block.proofs.texts.label.Reads as label-reads
 
 -- lent a block of the bytes s, `open` answered o
 abbrev pub OpenCall : List ℕ → Opened → Type 0
-OpenCall s o = (κs : Lfts 1) × (b : Bor (List ℕ)) × open-reads.Learnt κs (holding b s, tt) o (holding b s, tt)
+OpenCall s o = (κs : Lfts 1) × (b : Bor (List ℕ)) × open-reads.Learnt κs (record b { now = s }, tt) o (record b { now = s }, tt)
 
 -- lent the block, `user_text` returned the part r
 abbrev pub TextCall : Bor (List ℕ) → Bor (List ℕ) → Type 0

@@ -12,7 +12,7 @@ use lib.Signed.{mag}
 use lib.Ieee.{Float, le}
 use lib.Ieee.Scale.{finite}
 use contract.Lifetimes.{Lfts}
-use denote.Ref.{Bor, at_last as holding}
+use denote.Ref.{Bor}
 use Rattle.rules.specs.Numbers.{Bytes}
 use Rattle.rules.specs.Wave.{points}
 use Rattle.rules.specs.Rules.{first, refusal, opened}
@@ -97,10 +97,10 @@ module _ (s : List ℕ) (a n : ℕ) (level : Float) where
 
 -- ---- the call by its contract
 
--- What the caller of `first` learns, as the checker has it from the `ensures`: lent a block of the bytes s, the call answered x. `holding b s` is the slice b with
+-- What the caller of `first` learns, as the checker has it from the `ensures`: lent a block of the bytes s, the call answered x. `record b { now = s }` is the slice b with
 -- the bytes s in it
 abbrev pub FirstCall : List ℕ → ℕ → ℕ → Float → Crossing → Type 0
-FirstCall s a n level x = (κs : Lfts 1) × (b : Bor (List ℕ)) × reads.Learnt κs (holding b s, (a, (n, (level, tt)))) x (holding b s, (a, (n, (level, tt))))
+FirstCall s a n level x = (κs : Lfts 1) × (b : Bor (List ℕ)) × reads.Learnt κs (record b { now = s }, (a, (n, (level, tt)))) x (record b { now = s }, (a, (n, (level, tt))))
 
 pub first_determined : (s : List ℕ) (a n : ℕ) (level : Float) (x y : Crossing) → FirstCall s a n level x → FirstCall s a n level y → x ≡ y
 first_determined s a n level x y p q = p.2 ∙ sym q.2

@@ -5,7 +5,7 @@ use Prim.Native.Nat.{ℕ, zero, suc, ◌+◌}
 use lib.ListN.{length, take, drop}
 use lib.Seq.{take-append_seam}
 use contract.Lifetimes.{Lfts}
-use denote.Ref.{Bor, at_last as holding}
+use denote.Ref.{Bor, MutBor, at_last as holding}
 use Rattle.rules.specs.Numbers.{splice, unless_refused}
 use Rattle.rules.proofs.Tests.{left_alone}
 use Rattle.joining.specs.Join.{parts_in, joined_bytes, join_refusal}
@@ -56,9 +56,9 @@ module _ (s out : List ℕ) (w : Joined) (left : List ℕ) (call : Call s out w 
 -- ---- the call by its contract
 
 -- What the caller of `join` learns, as the checker has it from the `ensures`: lent parts of the bytes s and an output of the bytes out, the call answered
--- w and left these bytes in the output. `holding b s` is the slice b with the bytes s in it
+-- w and left these bytes in the output. `record b { now = s }` is the slice b with the bytes s in it
 abbrev pub JoinCall : List ℕ → List ℕ → Joined → List ℕ → Type 0
-JoinCall s out w left = (κs : Lfts 2) × (b : Bor (List ℕ)) × (o : Bor (List ℕ)) × reads.Learnt κs (holding b s, (holding o out, tt)) w (holding b s, (holding o left, tt))
+JoinCall s out w left = (κs : Lfts 2) × (b : Bor (List ℕ)) × (o : MutBor (List ℕ)) × reads.Learnt κs (record b { now = s }, (holding o out, tt)) w (record b { now = s }, (holding o left, tt))
 
 pub join_determined : (s out : List ℕ) (v w : Joined) (x y : List ℕ) → JoinCall s out v x → JoinCall s out w y → (v ≡ w) × (x ≡ y)
 join_determined s out v w x y a b = (a.3.0 ∙ sym b.3.0, a.3.1 ∙ sym b.3.1)

@@ -6,7 +6,7 @@ use Prim.Native.Nat.{ℕ, zero, suc, ◌+◌, ◌≤◌}
 use lib.ListN.{length, take, drop}
 use lib.Seq.{take-append_seam}
 use contract.Lifetimes.{Lfts}
-use denote.Ref.{Bor, at_last as holding}
+use denote.Ref.{Bor, MutBor, at_last as holding}
 use Rattle.rules.specs.Numbers.{Bytes, splice, unless_refused}
 use Rattle.rules.proofs.Tests.{left_alone}
 use Rattle.rules.proofs.Headers.{SameAnswers}
@@ -59,9 +59,9 @@ module _ (s out : List ℕ) (w : Narrowed) (left : List ℕ) (call : Call s out 
 -- ---- the call by its contract
 
 -- What the caller of `narrow` learns, as the checker has it from the `ensures`: lent a block of the bytes s and an output of the bytes out, the call answered
--- w and left these bytes in the output. `holding b s` is the slice b with the bytes s in it
+-- w and left these bytes in the output. `record b { now = s }` is the slice b with the bytes s in it
 abbrev pub NarrowCall : List ℕ → List ℕ → Narrowed → List ℕ → Type 0
-NarrowCall s out w left = (κs : Lfts 2) × (b : Bor (List ℕ)) × (o : Bor (List ℕ)) × reads.Learnt κs (holding b s, (holding o out, tt)) w (holding b s, (holding o left, tt))
+NarrowCall s out w left = (κs : Lfts 2) × (b : Bor (List ℕ)) × (o : MutBor (List ℕ)) × reads.Learnt κs (record b { now = s }, (holding o out, tt)) w (record b { now = s }, (holding o left, tt))
 
 pub narrow_determined : (s out : List ℕ) (v w : Narrowed) (x y : List ℕ) → NarrowCall s out v x → NarrowCall s out w y → (v ≡ w) × (x ≡ y)
 narrow_determined s out v w x y a b = (a.3.0 ∙ sym b.3.0, a.3.1 ∙ sym b.3.1)

@@ -10,7 +10,7 @@ use native.Mathlib.Omega.{arith}
 use lib.ListN.{length, take, drop}
 use lib.Seq.{take-append_seam}
 use contract.Lifetimes.{Lfts}
-use denote.Ref.{Bor, at_last as holding}
+use denote.Ref.{Bor, MutBor, at_last as holding}
 use Rattle.rules.specs.Numbers.{splice, unless_refused}
 use Rattle.rules.specs.Cut as rules
 use Rattle.rules.proofs.Tests.{left_alone}
@@ -78,13 +78,13 @@ module _ (s : rules.Setup) (out : List ℕ) (w : Printed) (left : List ℕ) (e :
 
 -- ---- the calls by their contracts
 
--- What the caller of `read` learns, as the checker has it from the `ensures`: lent a line of the bytes t, the call answered r. `holding b t` is the slice b with the bytes t in it
+-- What the caller of `read` learns, as the checker has it from the `ensures`: lent a line of the bytes t, the call answered r. `record b { now = t }` is the slice b with the bytes t in it
 abbrev pub ReadCall : List ℕ → Reading → Type 0
-ReadCall t r = (κs : Lfts 1) × (b : Bor (List ℕ)) × read-reads.Learnt κs (holding b t, tt) r (holding b t, tt)
+ReadCall t r = (κs : Lfts 1) × (b : Bor (List ℕ)) × read-reads.Learnt κs (record b { now = t }, tt) r (record b { now = t }, tt)
 
 -- and of `write`: for the setup c, and lent an output of the bytes out, the call answered w and left these bytes in the output
 abbrev pub WriteCall : Setup → List ℕ → Printed → List ℕ → Type 0
-WriteCall c out w left = (κs : Lfts 1) × (o : Bor (List ℕ)) × write-reads.Learnt κs (c, (holding o out, tt)) w (c, (holding o left, tt))
+WriteCall c out w left = (κs : Lfts 1) × (o : MutBor (List ℕ)) × write-reads.Learnt κs (c, (holding o out, tt)) w (c, (holding o left, tt))
 
 pub read_determined : (t : List ℕ) (q r : Reading) → ReadCall t q → ReadCall t r → q ≡ r
 read_determined t q r a b = a.2 ∙ sym b.2

@@ -8,7 +8,7 @@ use lib.IntN.{ℤ}
 use lib.ListN.{length}
 use Rattle.rules.specs.Numbers.{Bytes, unless_refused}
 use contract.Lifetimes.{Lfts}
-use denote.Ref.{Bor, at_last as holding}
+use denote.Ref.{Bor, MutBor, at_last as holding}
 use Rattle.rules.specs.Wave.{Wave, points}
 use Rattle.rules.specs.Rules.{first, opened}
 use Rattle.rules.specs.Cut.{or_else}
@@ -92,11 +92,11 @@ drawn_number s a n w low high = go (strip_refusal s a n w low high)
 -- ---- the calls by their contracts
 
 -- What the caller of `strip` learns, as the checker has it from the `ensures`: lent a block of the bytes s and two slices that hold these numbers, the call answered
--- d and left these in the two. `holding b s` is the slice b with s in it
+-- d and left these in the two. `record b { now = s }` is the slice b with s in it
 abbrev pub StripCall : List ℕ → ℕ → ℕ → ℕ → List ℤ → List ℤ → Drawn → List ℤ → List ℤ → Type 0
 StripCall s a n w least greatest d low high =
-    (κs : Lfts 3) × (b : Bor (List ℕ)) × (l : Bor (List ℤ)) × (g : Bor (List ℤ))
-    × strip-reads.Learnt κs (holding b s, (a, (n, (w, (holding l least, (holding g greatest, tt)))))) d (holding b s, (a, (n, (w, (holding l low, (holding g high, tt))))))
+    (κs : Lfts 3) × (b : Bor (List ℕ)) × (l : MutBor (List ℤ)) × (g : MutBor (List ℤ))
+    × strip-reads.Learnt κs (record b { now = s }, (a, (n, (w, (holding l least, (holding g greatest, tt)))))) d (record b { now = s }, (a, (n, (w, (holding l low, (holding g high, tt))))))
 
 pub strip_determined : (s : List ℕ) (a n w : ℕ) (least greatest : List ℤ) (d e : Drawn) (x y u v : List ℤ) → StripCall s a n w least greatest d x u → StripCall s a n w least greatest e y v → (d ≡ e) × (x ≡ y) × (u ≡ v)
 strip_determined s a n w least greatest d e x y u v p q = (p.4.0 ∙ sym q.4.0, p.4.1.0 ∙ sym q.4.1.0, p.4.1.1 ∙ sym q.4.1.1)

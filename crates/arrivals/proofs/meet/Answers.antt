@@ -66,7 +66,7 @@ pub loop-here-init : goal.loop-here-init
 loop-here-init c =
     let a = c.args in
     let i = c.is_index-together in
-    (first_met a.parts.now (bytes (goal.at.loop-here-init c).After-shared_slice_known-1) c.requires.0 (first_good (goal.at.loop-here-init c).After-shared_slice_known-1) a.first.index i.result _ (index_is (goal.at.loop-here-init c).After-shared_slice_known-1) i.ensures c.note.ensures a.first.end (end_is (goal.at.loop-here-init c).After-shared_slice_known-1), omega arith, c.note.auto.0)
+    (first_met a.parts.now (bytes (goal.at.loop-here-init c).After-shared_slice_known-1) c.requires.0 (first_good (goal.at.loop-here-init c).After-shared_slice_known-1) a.first.index i.result _ (index_is (goal.at.loop-here-init c).After-shared_slice_known-1) c.is_index-together.ensures c.note.ensures a.first.end (end_is (goal.at.loop-here-init c).After-shared_slice_known-1), omega arith, c.note.auto.seen)
 
 pub returns-then-number-ne0 : goal.returns-then-number-ne0
 returns-then-number-ne0 c =
@@ -112,10 +112,10 @@ loop-here-preserved c =
     let n = c.note-in-loop-here in (
       next_met a.parts.now (bytes (goal.at.loop-here-preserved c).After-shared_slice_known-1) c.requires.0 (first_good (goal.at.loop-here-preserved c).After-shared_slice_known-1) a.first.start c.text_length-text.result (lead_is (goal.at.loop-here-preserved c).After-shared_slice_known-1) c.text_length-text.ensures
           l.seen l.together l.count l.here l.invariant.0 c.loop-here-test.true (part_sound (goal.at.loop-here-preserved c).Else-number-ne0) c.part_at-part.result.start (ap (λ (x : Part). x.start) (part-answer (goal.at.loop-here-preserved c).Else-number-ne0))
-          c.part_at-part.result.index f.result _ (ap (λ (x : Part). x.index) (part-answer (goal.at.loop-here-preserved c).Else-number-ne0)) f.ensures n.ensures
+          c.part_at-part.result.index f.result _ (ap (λ (x : Part). x.index) (part-answer (goal.at.loop-here-preserved c).Else-number-ne0)) c.belongs-fits.ensures c.note-in-loop-here.ensures
           c.part_at-part.result.end (ap (λ (x : Part). x.end) (part-answer (goal.at.loop-here-preserved c).Else-number-ne0)),
       omega (arith, l.invariant.1),
-      n.auto.0 ∙ l.invariant.2,
+      c.note-in-loop-here.auto.seen ∙ l.invariant.2,
     )
 
 pub returns-then-count-gt1000 : goal.returns-then-count-gt1000

@@ -50,7 +50,7 @@ pub loop-n-preserved : goal.loop-n-preserved
 loop-n-preserved c =
     let a = c.args in (
       omega arith,
-      c.copy_row.auto.1.1.1.1.1.1.0 ∙ c.loop-n.invariant.1,
+      c.copy_row.auto.out ∙ c.loop-n.invariant.1,
       c.copy_row.ensures
           ∙ rw c.loop-n.invariant.2
           (gather-step (λ i. items a.same a.src.now (a.from + i * a.row) a.step a.width a.count) (a.count * a.width) c.loop-n.n

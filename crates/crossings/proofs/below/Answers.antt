@@ -36,7 +36,7 @@ first_between-requires c =
     let f = c.samples_from-from in
     record {
       narrow = (omega arith, omega (arith, kind_small a.block.now (bytes (goal.at.first_between-requires c).After-shared_slice_known-1) a.o a.array a.segment 0 p));
-      inside = put_room a.block.now (bytes (goal.at.first_between-requires c).After-shared_slice_known-1) a.o a.array a.segment p (a.o.kind + 1) f.result refl f.ensures;
+      inside = put_room a.block.now (bytes (goal.at.first_between-requires c).After-shared_slice_known-1) a.o a.array a.segment p (a.o.kind + 1) f.result refl c.samples_from-from.ensures;
     }
 
 pub overflow_cast-result : goal.overflow_cast-result
@@ -47,7 +47,7 @@ returns c =
     let a = c.args in
     let f = c.samples_from-from in
     let b = c.bounds_of-b in
-    let low : SFits w16 b.result.low = record { sfits = c.type_inv.b.0.1 } in
-    let high : SFits w16 b.result.high = record { sfits = c.type_inv.b.1.0.1 } in
-    first_is a.block.now (bytes (goal.at.returns c).After-shared_slice_known-1) a.o a.array a.segment c.requires.lent a.level _ _ (λ z h. b.ensures z h ∙ as_lent b.result.low b.result.high z low high) f.result c.first_between.result f.ensures
+    let low : SFits w16 b.result.low = record { sfits = c.struct_told-1.given.0.1 } in
+    let high : SFits w16 b.result.high = record { sfits = c.struct_told-2-1.given.1.0.1 } in
+    first_is a.block.now (bytes (goal.at.returns c).After-shared_slice_known-1) a.o a.array a.segment c.requires.lent a.level _ _ (λ z h. c.bounds_of-b.ensures z h ∙ as_lent b.result.low b.result.high z low high) f.result c.first_between.result c.samples_from-from.ensures
     c.first_between.ensures

@@ -11,28 +11,20 @@ overflow_mul-sp c = omega (arith, word_product c.at_least_one-step.result c.at_l
 
 pub returns-then-sp-gt268435455 : goal.returns-then-sp-gt268435455
 returns-then-sp-gt268435455 c =
-    let p : tie.After-at-least-one2 = c in
-    sp_above (setup_as p.args.a) (setup_as p.args.b) p.args.count p.at_least_one.result p.at-least-one2.result p.at_least_one.ensures p.at-least-one2.ensures (omega (arith, c.if-sp-gt268435455.true))
+    sp_above (setup_as c.args.a) (setup_as c.args.b) c.args.count c.at_least_one-step.result c.at_least_one.result c.at_least_one-step.ensures c.at_least_one.ensures (omega (arith, c.if-sp-gt268435455.true))
 
 pub overflow_mul-fp : goal.overflow_mul-fp
 overflow_mul-fp c =
-    let p : tie.After-at-least-one2 = c in
-    omega (arith, word_product p.at_least_one.result p.args.b.fp (omega arith) (omega arith))
+    omega (arith, word_product c.at_least_one-step.result c.args.b.fp (omega arith) (omega arith))
 
 pub overflow_add-fp : goal.overflow_add-fp
 overflow_add-fp c =
-    let p : tie.After-at-least-one2 = c in
-    omega (arith, word_product p.at_least_one.result p.args.b.fp (omega arith) (omega arith))
+    omega (arith, word_product c.at_least_one-step.result c.args.b.fp (omega arith) (omega arith))
 
 pub returns-then-fp-gt4294967295 : goal.returns-then-fp-gt4294967295
 returns-then-fp-gt4294967295 c =
-    let e : tie.Else1 = c in
-    let p : tie.After-at-least-one2 = e in
-    fp_above (setup_as p.args.a) (setup_as p.args.b) p.args.count p.at_least_one.result p.at-least-one2.result p.at_least_one.ensures p.at-least-one2.ensures (omega (arith, e.if1.false)) (omega (arith, c.if-fp-gt4294967295.true))
+    fp_above (setup_as c.args.a) (setup_as c.args.b) c.args.count c.at_least_one-step.result c.at_least_one.result c.at_least_one-step.ensures c.at_least_one.ensures (omega (arith, c.if-sp-gt268435455.false)) (omega (arith, c.if-fp-gt4294967295.true))
 
 pub returns : goal.returns
 returns c =
-    let f : tie.Else2 = c in
-    let e : tie.Else1 = f in
-    let p : tie.After-at-least-one2 = e in
-    one-setup (setup_as p.args.a) (setup_as p.args.b) p.args.count p.at_least_one.result p.at-least-one2.result p.at_least_one.ensures p.at-least-one2.ensures (omega (arith, e.if1.false)) (omega (arith, f.if2.false)) c.or_else.result c.or_else.ensures
+    one-setup (setup_as c.args.a) (setup_as c.args.b) c.args.count c.at_least_one-step.result c.at_least_one.result c.at_least_one-step.ensures c.at_least_one.ensures (omega (arith, c.if-sp-gt268435455.false)) (omega (arith, c.if-fp-gt4294967295.false)) c.or_else.result c.or_else.ensures

@@ -22,7 +22,7 @@ starts c = c.payload_at-start.ensures ∙ omega arith
 
 -- the descriptor is there
 room : (c : After-payload_at-start) → c.payload_at-start.result + 346 ≤ length c.args.part.now
-room c = omega (arith, starts c, head-room c.args.part.now (bytes c) c.requires)
+room c = omega (arith, starts c, head-room c.args.part.now (bytes (goal.at.After-payload_at-start c).After-shared_slice_known-1) c.requires)
 
 pub payload_at-start-requires : goal.payload_at-start-requires
 payload_at-start-requires c =

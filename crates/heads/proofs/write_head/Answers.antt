@@ -19,4 +19,4 @@ returns c =
     c.put_u16.ensures
     ∙ ap (λ (l : List ℕ). splice l (a.at + 34) (bytes a.order 2 a.order))
     (c.put_lengths.ensures ∙ ap (longs a.order a.at (length_changes a.changes)) (c.put_places.ensures ∙ ap (longs a.order a.at (place_changes a.changes)) c.copy_head.ensures))
-    ∙ c-written a.was a.order a.start a.at a.changes a.block.now a.out.now c.requires.was_bound.0 c.requires.was_bound.1 (bytes_of (goal.at.returns c).After-shared_slice_known-1) c.requires.start_in_bounds c.requires.at_in_bounds
+    ∙ head-written a.was a.order a.start a.at a.changes a.block.now a.out.now c.requires.was_bound.0 c.requires.was_bound.1 (bytes_of (goal.at.returns c).After-shared_slice_known-1) c.requires.start_in_bounds c.requires.at_in_bounds

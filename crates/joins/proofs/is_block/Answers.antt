@@ -24,13 +24,13 @@ gathered c = let a = c.args in gathered_by a.parts.now c.lead_of-lead.result a.c
 
 -- where its trigger times start
 starts : (c : After-lead_of-lead) → let l = c.lead_of-lead.result.lengths in get_or l 0 0 + get_or l 1 0 + get_or l 2 0 ≡ start_by c.lead_of-lead.result 3
-starts c = let a = c.args in first-start a.parts.now (bytes c) c.lead_of-lead.result a.count a.end (gathered c)
+starts c = let a = c.args in first-start a.parts.now (bytes (goal.at.After-lead_of-lead c).After-shared_slice_known-1) c.lead_of-lead.result a.count a.end (gathered c)
 
 -- which is inside its payload
 inside : (c : After-lead_of-lead) → start_by c.lead_of-lead.result 3 ≤ c.args.end
 inside c =
     let a = c.args in
-    omega (arith, row_ends a.parts.now (bytes c) c.lead_of-lead.result a.count a.end (gathered c) 3 (omega arith))
+    omega (arith, row_ends a.parts.now (bytes (goal.at.After-lead_of-lead c).After-shared_slice_known-1) c.lead_of-lead.result a.count a.end (gathered c) 3 (omega arith))
 
 pub slice_bounds-lead_of-end : goal.slice_bounds-lead_of-end
 slice_bounds-lead_of-end c = omega (arith, c.requires.ends, first-within c.args.parts.now)

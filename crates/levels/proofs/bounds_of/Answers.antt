@@ -28,7 +28,7 @@ pub returns-then-k-eq65536 : goal.returns-then-k-eq65536
 returns-then-k-eq65536 c =
     let a = c.args in
     let e = c.edge-k in
-    bounded (λ z. le a.level (value_of a.c.gain a.c.offset z)) (falling a.c.gain) e.result (pos 32767) (negsuc 32767) (no_bounds (falling a.c.gain) e.result c.if-k-eq65536.true) e.ensures
+    bounded (λ z. le a.level (value_of a.c.gain a.c.offset z)) (falling a.c.gain) e.result (pos 32767) (negsuc 32767) (no_bounds (falling a.c.gain) e.result c.if-k-eq65536.true) c.edge-k.ensures
 
 pub returns-then-falling : goal.returns-then-falling
 returns-then-falling c =
@@ -37,7 +37,7 @@ returns-then-falling c =
     let e = c.edge-k in
     let r = c.ranked-z in
     bounded (λ z. le a.level (value_of a.c.gain a.c.offset z)) f e.result (negsuc 32767) _
-    (falling_bounds f e.result _ c.if-falling.true (omega arith) (to_z-of_z w16 r.result (record { sfits = r.type-inv }) ∙ r.ensures)) e.ensures
+    (falling_bounds f e.result _ c.if-falling.true (omega arith) (to_z-of_z w16 r.result (record { sfits = r.type_inv }) ∙ c.ranked-z.ensures)) c.edge-k.ensures
 
 pub returns : goal.returns
 returns c =
@@ -46,4 +46,4 @@ returns c =
     let e = c.edge-k in
     let r = c.ranked-z in
     bounded (λ z. le a.level (value_of a.c.gain a.c.offset z)) f e.result _ (pos 32767)
-    (rising_bounds f e.result _ c.if-falling.false (to_z-of_z w16 r.result (record { sfits = r.type-inv }) ∙ r.ensures)) e.ensures
+    (rising_bounds f e.result _ c.if-falling.false (to_z-of_z w16 r.result (record { sfits = r.type_inv }) ∙ c.ranked-z.ensures)) c.edge-k.ensures

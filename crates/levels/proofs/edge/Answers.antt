@@ -23,7 +23,7 @@ tried : (c : After-value)
 tried c =
     let a = c.args in
     let r = c.ranked in
-    sym (ap (le a.level) (c.value.ensures.value ∙ ap (value_of a.c.gain a.c.offset) (to_z-of_z w16 r.result (record { sfits = r.type-inv }) ∙ r.ensures)))
+    sym (ap (le a.level) (c.value.ensures.value ∙ ap (value_of a.c.gain a.c.offset) (to_z-of_z w16 r.result (record { sfits = r.type_inv }) ∙ c.ranked.ensures)))
 
 pub loop-low-preserved-then-level-value : goal.loop-low-preserved-then-level-value
 loop-low-preserved-then-level-value c =

@@ -21,7 +21,7 @@ prefix n l h = sym (length-take-le n l h)
 
 -- the first line fits
 room : (c : After-put_front-first) → c.put_front-first.result ≤ length c.put_front-first.new.1.0
-room c = omega (arith, c.buffer-page.ensures, c.put_front-first.auto.1.0, c.put_front-first.ensures.upper_bound)
+room c = omega (arith, c.buffer-page.ensures, c.put_front-first.auto.out, c.put_front-first.ensures.upper_bound)
 
 -- it comes first, and a page comes next
 first : (c : After-begin-spot) → let x = c.args in let bs = take c.put_front-first.result c.put_front-first.new.1.0 in
@@ -54,7 +54,7 @@ write_next-going-requires c = let f = first (goal.at.write_next-going-requires c
 pub loop-going-init : goal.loop-going-init
 loop-going-init c =
     let r = c.put_front-first in
-    (omega (arith, c.buffer-page.ensures, r.auto.1.0), subst (Before c.args.block.now c.begin-spot.result) (sym c.write_next-going.ensures) (first (goal.at.loop-going-init c).After-begin-spot).1)
+    (omega (arith, c.buffer-page.ensures, r.auto.spot), subst (Before c.args.block.now c.begin-spot.result) (sym c.write_next-going.ensures) (first (goal.at.loop-going-init c).After-begin-spot).1)
 
 pub put_page-written-requires : goal.put_page-written-requires
 put_page-written-requires c = record {
@@ -83,7 +83,7 @@ loop-going-smaller c =
 pub loop-going-preserved : goal.loop-going-preserved
 loop-going-preserved c =
     let r = c.put_page-written in
-    (omega (arith, r.auto.1.1.0, c.loop-going.invariant.0), subst (Before c.args.block.now r.result.spot) (sym c.write_next-going-in-loop-going.ensures) (page (goal.at.loop-going-preserved c).After-put_page-written).1)
+    (omega (arith, r.auto.out, c.loop-going.invariant.0), subst (Before c.args.block.now r.result.spot) (sym c.write_next-going-in-loop-going.ensures) (page (goal.at.loop-going-preserved c).After-put_page-written).1)
 
 pub returns-else-spot-eq0 : goal.returns-else-spot-eq0
 returns-else-spot-eq0 c =

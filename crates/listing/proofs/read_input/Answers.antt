@@ -30,10 +30,10 @@ loop-input-smaller c =
     let l = c.loop-input in
     let r = c.read_behind-input in
     let more : some l.input.last ≡ 1 = goes_on l.input.last (fits (goal.at.loop-input-smaller c).After-struct_told-1) c.loop-input-test.true in
-    omega (arith, r.ensures.counts, r.ensures.within, r.auto.0, (some-moved r.result.last).0, (some-moved r.result.last).1)
+    omega (arith, r.ensures.counts, r.ensures.within, r.auto.buffer, (some-moved r.result.last).0, (some-moved r.result.last).1)
 
 pub loop-input-preserved : goal.loop-input-preserved
-loop-input-preserved c = let r = c.read_behind-input in (r.ensures.within, r.auto.0 ∙ c.loop-input.invariant.1)
+loop-input-preserved c = let r = c.read_behind-input in (r.ensures.within, r.auto.buffer ∙ c.loop-input.invariant.1)
 
 pub shape_of-buffer-else-input-buffer : goal.shape_of-buffer-else-input-buffer
 shape_of-buffer-else-input-buffer c = c.loop-input.invariant.1

@@ -8,6 +8,6 @@ pub returns : goal.returns
 returns c =
     let f = c.fill-filled in
     record {
-      value = c.told.ensures ∙ ap told_of f.ensures.0;
-      out_after = f.ensures.1;
+      value = c.told.ensures ∙ ap told_of c.fill-filled.ensures.value;
+      out_after = c.fill-filled.ensures.out_after;
     }

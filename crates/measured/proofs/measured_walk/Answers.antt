@@ -13,7 +13,7 @@ returns-then-place-ne0 c =
     let a = c.args in
     let p = c.place_of-place in
     let h = c.if-place-ne0.true in
-    let e = number-refused a.block.now a.array a.segment p.result p.ensures (length a.out.now) h in
+    let e = number-refused a.block.now a.array a.segment p.result c.place_of-place.ensures (length a.out.now) h in
     let q = fill_refused a.block.now a.array a.segment p.result.refusal a.out.now e h in
     record {
       value = c.told.ensures ∙ ap told_of q.0;
@@ -24,8 +24,8 @@ pub returns-then-out-place : goal.returns-then-out-place
 returns-then-out-place c =
     let a = c.args in
     let p = c.place_of-place in
-    let z = walks a.block.now a.array a.segment p.result p.ensures c.if-place-ne0.false in
-    let e = number_short a.block.now a.array a.segment p.result p.ensures z (length a.out.now) c.if-out-place.true in
+    let z = walks a.block.now a.array a.segment p.result c.place_of-place.ensures c.if-place-ne0.false in
+    let e = number_short a.block.now a.array a.segment p.result c.place_of-place.ensures z (length a.out.now) c.if-out-place.true in
     let q = fill_refused a.block.now a.array a.segment 13 a.out.now e (λ z. omega arith) in
     record {
       value = c.told-then-out-place.ensures ∙ ap told_of q.0;
@@ -37,8 +37,8 @@ put_points-marks-requires c =
     let a = c.args in
     let p = c.place_of-place in
     record {
-      first_value = p.ensures;
-      segment_value = walks a.block.now a.array a.segment p.result p.ensures c.if-place-ne0.false;
+      first_value = c.place_of-place.ensures;
+      segment_value = walks a.block.now a.array a.segment p.result c.place_of-place.ensures c.if-place-ne0.false;
       points_in_bounds = c.if-out-place.false;
     }
 
@@ -47,11 +47,11 @@ returns c =
     let a = c.args in
     let p = c.place_of-place in
     let w = c.put_points-marks in
-    let z = walks a.block.now a.array a.segment p.result p.ensures c.if-place-ne0.false in
-    let e = number_none a.block.now a.array a.segment p.result p.ensures z (length a.out.now) c.if-out-place.false in
-    let m = points_are a.block.now a.array a.segment p.result p.ensures z in
-    let q = fill_is a.block.now a.array a.segment p.result.points w.result a.out.now m w.ensures.1 (sym e) in
+    let z = walks a.block.now a.array a.segment p.result c.place_of-place.ensures c.if-place-ne0.false in
+    let e = number_none a.block.now a.array a.segment p.result c.place_of-place.ensures z (length a.out.now) c.if-out-place.false in
+    let m = points_are a.block.now a.array a.segment p.result c.place_of-place.ensures z in
+    let q = fill_is a.block.now a.array a.segment p.result.points w.result a.out.now m c.put_points-marks.ensures.value (sym e) in
     record {
       value = c.told-2.ensures ∙ ap told_of q.0;
-      out_after = w.ensures.0 ∙ q.1;
+      out_after = c.put_points-marks.ensures.out_after ∙ q.1;
     }

@@ -45,7 +45,7 @@ module _ (c : In-Point-2) where
       let l = loop.loop in
       let r = c.step_at in
       let v = c.value-1.given in
-      let h = handed a.block.now a.array a.segment (bytes c) start.pre.1.0 l.k l.inv.0 l.place l.inv.1 r.result r.ensures v.0.0 v.0.1.0 v.0.1.1.0 v.1 in
+      let h = handed a.block.now a.array a.segment (bytes c) start.pre.1.0 l.k l.inv.0 l.place l.inv.1 r.result c.step_at.ensures v.0.0 v.0.1.0 v.0.1.1.0 v.1 in
       (h.0, h.1, h.3)
 
   within : loop.loop.k < length loop.loop.out
@@ -56,48 +56,47 @@ unfolding up_from mark_count_of
 loop-value-init c = let a = c.args in (omega arith, c.requires.first_value, refl, over_none a.out.now 0, refl)
 
 pub offset_bounds-out-k : goal.offset_bounds-out-k
-offset_bounds-out-k c = omega (arith, within c)
+offset_bounds-out-k c = omega (arith, within (goal.at.offset_bounds-out-k c).In-Point-2)
 
 pub bounds-out-k : goal.bounds-out-k
-bounds-out-k c = within c
+bounds-out-k c = within (goal.at.bounds-out-k c).In-Point-2
 
 -- the mark of one point more
 one : (c : After-mark_number)
-    → (let h = c in
-    let a = (start h).args in
+    → (let a = (start (goal.at.After-mark_number c).In-Point-2).args in
     let w : Wave = opened a.block.now in
-    (loop h).loop.marks + c.mark_number.result ≡ mark_count_of (size_of w.head) (map (sample w a.array a.segment) (up_from 0 ((loop h).loop.k + 1))))
-unfolding c
+    (loop (goal.at.After-mark_number c).In-Point-2).loop.marks + c.mark_number.result ≡ mark_count_of (size_of w.head) (map (sample w a.array a.segment) (up_from 0 ((loop (goal.at.After-mark_number c).In-Point-2).loop.k + 1))))
+unfolding mark
 one c =
-    let a = (start c).args in
-    let l = (loop c).loop in
+    let a = (start (goal.at.After-mark_number c).In-Point-2).args in
+    let l = (loop (goal.at.After-mark_number c).In-Point-2).loop in
     let w : Wave = opened a.block.now in
     marks-one (size_of w.head) (sample w a.array a.segment) 0 l.k l.k l.marks c.mark_number.result (sample w a.array a.segment l.k) (omega arith) l.inv.4 refl
-    (c.mark_number.ensures ∙ ap mark_number (next c).2)
+    (c.mark_number.ensures ∙ ap mark_number (next (goal.at.After-mark_number c).In-Point-2).2)
 
 pub overflow_add-marks : goal.overflow_add-marks
 overflow_add-marks c =
-    let a = (start c).args in
+    let a = (start (goal.at.overflow_add-marks c).In-Point-2).args in
     let w : Wave = opened a.block.now in
-    let few = marks_few (size_of w.head) (sample w a.array a.segment) 0 ((loop c).loop.k + 1) in
-    omega (arith, one (goal.at.overflow_add-marks c).After-mark_number, few, (next c).0, points_are a.block.now a.array a.segment a.first (start c).requires.0 (start c).requires.1.0, (start c).well-formed)
+    let few = marks_few (size_of w.head) (sample w a.array a.segment) 0 ((loop (goal.at.overflow_add-marks c).In-Point-2).loop.k + 1) in
+    omega (arith, one (goal.at.overflow_add-marks c).After-mark_number, few, (next (goal.at.overflow_add-marks c).In-Point-2).0, points_are a.block.now a.array a.segment a.first (start (goal.at.overflow_add-marks c).In-Point-2).requires.0 (start (goal.at.overflow_add-marks c).In-Point-2).requires.1.0, (start (goal.at.overflow_add-marks c).In-Point-2).well_formed)
 
 pub overflow_add-k : goal.overflow_add-k
-overflow_add-k c = omega (arith, within c)
+overflow_add-k c = omega (arith, within (goal.at.overflow_add-k c).In-Point-2)
 
 pub loop-value-smaller : goal.loop-value-smaller
-loop-value-smaller c = omega (arith, (next c).0)
+loop-value-smaller c = omega (arith, (next (goal.at.loop-value-smaller c).In-Point-2).0)
 
 pub loop-value-preserved : goal.loop-value-preserved
 loop-value-preserved c =
-    let l = (loop c).loop in
-    let a = (start c).args in
+    let l = (loop (goal.at.loop-value-preserved c).In-Point-2).loop in
+    let a = (start (goal.at.loop-value-preserved c).In-Point-2).args in
     let f : ℕ → Float = value (opened a.block.now) a.array a.segment in
-    let n = next c in (
+    let n = next (goal.at.loop-value-preserved c).In-Point-2 in (
       omega (arith, n.0),
       c.after-place.ensures ∙ ap after_of l.inv.1 ∙ ap (place_after a.block.now a.array a.segment) (sym (add-one l.k)),
       simp length-set l.inv.2,
-      map-one f a.out.now l.out 0 0 l.k l.k l.k c.value-1.given.0.0 n.1 (omega arith) (omega arith) (omega (arith, within c, l.inv.2)) l.inv.3,
+      map-one f a.out.now l.out 0 0 l.k l.k l.k c.value-1.given.0.0 n.1 (omega arith) (omega arith) (omega (arith, within (goal.at.loop-value-preserved c).In-Point-2, l.inv.2)) l.inv.3,
       one (goal.at.loop-value-preserved c).After-mark_number,
     )
 
@@ -112,7 +111,7 @@ returns c =
     let a = c.args in
     let w : Wave = opened a.block.now in
     let f : ℕ → Float = value w a.array a.segment in
-    let q = stopped a.block.now a.array a.segment (bytes (goal.at.returns c).After-shared_slice_known-1) c.requires.segment_value l.k l.invariant.0 l.place l.invariant.1 r.result r.ensures c.enum_told-1.given.1 in
+    let q = stopped a.block.now a.array a.segment (bytes (goal.at.returns c).After-shared_slice_known-1) c.requires.segment_value l.k l.invariant.0 l.place l.invariant.1 r.result c.step_at.ensures c.enum_told-1.given.1 in
     let e : l.k ≡ a.first.points = omega (arith, q, points_are a.block.now a.array a.segment a.first c.requires.first_value c.requires.segment_value) in
     record {
       out_after = all-written f a.out.now l.out l.k a.first.points e l.invariant.3;

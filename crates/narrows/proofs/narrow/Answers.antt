@@ -13,30 +13,30 @@ use borrow.Author.Rules.{rules}
 use Rattle.narrows.proofs.narrow.Goals as goal
 use Rattle.narrows.proofs.narrow.Goals.{After-open-o, Else-number-ne0}
 
-number : (c : After-open-o) → c.«open».result.refusal ≡ refusal c.args.block.now
-number c = number_is c.args.block.now c.«open».result c.«open».ensures
+number : (c : After-open-o) → c.open-o.result.refusal ≡ refusal c.args.block.now
+number c = number_is c.args.block.now c.open-o.result c.open-o.ensures
 
 -- the block is accepted, and the record's type is COMM_TYPE
 accepted : (c : Else-number-ne0) → refusal c.args.block.now ≡ 0
-accepted c = sym (number c) ∙ c.if-number-ne0.false
+accepted c = sym (number (goal.at.Else-number-ne0 c).After-open-o) ∙ c.if-number-ne0.false
 
-kind : (c : Else-number-ne0) → c.«open».result.kind ≡ comm_type (opened c.args.block.now).head
-kind c = ap (λ (o : Opened). o.kind) (accepted_as_lem c.args.block.now c.«open».result c.«open».ensures (accepted c))
+kind : (c : Else-number-ne0) → c.open-o.result.kind ≡ comm_type (opened c.args.block.now).head
+kind c = ap (λ (o : Opened). o.kind) (accepted_as_lem c.args.block.now c.open-o.result c.open-o.ensures (accepted c))
 
 pub returns-then-number-ne0 : goal.returns-then-number-ne0
 returns-then-number-ne0 c =
     let s = c.args.block.now in
     let n = number (goal.at.returns-then-number-ne0 c).After-open-o in
-    let told = refuses s c.args.out.now c.«open».result.refusal (n ∙ block-number s (length c.args.out.now) (λ z. c.if-number-ne0.true (n ∙ z))) c.if-number-ne0.true c.refused.result c.refused.ensures in record {
+    let told = refuses s c.args.out.now c.open-o.result.refusal (n ∙ block-number s (length c.args.out.now) (λ z. c.if-number-ne0.true (n ∙ z))) c.if-number-ne0.true c.refused.result c.refused.ensures in record {
       value = told.0;
       out_after = told.1;
     }
 
 pub narrow_byte-requires : goal.narrow_byte-requires
-narrow_byte-requires c = (c.«open».ensures, accepted (goal.at.narrow_byte-requires c).Else-number-ne0, sym (kind (goal.at.narrow_byte-requires c).Else-number-ne0) ∙ c.if-o-eq0.true)
+narrow_byte-requires c = (c.open-o.ensures, accepted (goal.at.narrow_byte-requires c).Else-number-ne0, sym (kind (goal.at.narrow_byte-requires c).Else-number-ne0) ∙ c.if-o-eq0.true)
 
 pub narrow_word-requires : goal.narrow_word-requires
 narrow_word-requires c =
     let s = c.args.block.now in
-    let most = (c-opened s (below-index 256 s (λ i h. (c.type_inv.block i).fits)) (accepted (goal.at.narrow_word-requires c).Else-number-ne0)).kind in
-    (c.«open».ensures, accepted (goal.at.narrow_word-requires c).Else-number-ne0, omega (arith, most, sym (kind (goal.at.narrow_word-requires c).Else-number-ne0), c.if-o-eq0.false))
+    let most = (good-opened s (below-index 256 s (λ i h. (c.type_inv.block i).fits)) (accepted (goal.at.narrow_word-requires c).Else-number-ne0)).kind in
+    (c.open-o.ensures, accepted (goal.at.narrow_word-requires c).Else-number-ne0, omega (arith, most, sym (kind (goal.at.narrow_word-requires c).Else-number-ne0), c.if-o-eq0.false))

@@ -22,12 +22,12 @@ read c = let a = c.args in c.header_of-header.ensures ∙ ap header_of (rest_is 
 framed : (c : Else-not-header) → let a = c.args in all (frame (drop a.at a.parts.now)) ≡ true
 framed c =
     let a = c.args in
-    passes (framed_is (drop a.at a.parts.now) c.header_of-header.result (read c)) c.if-not-header.false
+    passes (framed_is (drop a.at a.parts.now) c.header_of-header.result (read (goal.at.Else-not-header c).After-header_of-header)) c.if-not-header.false
 
 header : (c : Else-not-header) → let a = c.args in c.header_of-header.result ≡ framed_as (drop a.at a.parts.now)
 header c =
     let a = c.args in
-    framed-says (drop a.at a.parts.now) c.header_of-header.result (read c) (framed c)
+    framed-says (drop a.at a.parts.now) c.header_of-header.result (read (goal.at.Else-not-header c).After-header_of-header) (framed c)
 
 -- where it ends
 ends : (c : Else-not-header) → let a = c.args in a.at + c.header_of-header.result.start + c.header_of-header.result.length ≡ a.at + part_end (drop a.at a.parts.now)
@@ -66,10 +66,10 @@ returns-then-number-ne0 c =
     let a = c.args in
     let h = c.header_of-header.result in
     c.refused-then-number-ne0.ensures
-    ∙ bad_here a.parts.now a.at (a.at + h.start + h.length) (ends (goal.at.returns-then-number-ne0 c).Else-not-header) (omega (arith, c.if-n-end.false)) c.«open».result c.«open».ensures c.if-number-ne0.true
+    ∙ bad_here a.parts.now a.at (a.at + h.start + h.length) (ends (goal.at.returns-then-number-ne0 c).Else-not-header) (omega (arith, c.if-n-end.false)) c.open-o.result c.open-o.ensures c.if-number-ne0.true
 
 pub returns : goal.returns
 returns c =
     let a = c.args in
     let h = c.header_of-header.result in
-    good_here a.parts.now a.at (a.at + h.start + h.length) (ends (goal.at.returns c).Else-not-header) (omega (arith, c.if-n-end.false)) c.«open».result c.«open».ensures (a.at + h.start) (ap (λ (x : Header). a.at + x.start) (header (goal.at.returns c).Else-not-header)) c.if-number-ne0.false
+    good_here a.parts.now a.at (a.at + h.start + h.length) (ends (goal.at.returns c).Else-not-header) (omega (arith, c.if-n-end.false)) c.open-o.result c.open-o.ensures (a.at + h.start) (ap (λ (x : Header). a.at + x.start) (header (goal.at.returns c).Else-not-header)) c.if-number-ne0.false

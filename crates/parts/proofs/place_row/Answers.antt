@@ -45,7 +45,7 @@ returns-then-size-eq8 c =
     let a = c.args in
     let r = c.u64_at in
     c.put_u64.ensures
-    ∙ ap (splice a.out.now (a.at + (a.index - a.skip - 1) * a.size)) (eight_bytes a.parts.now (bytes (goal.at.returns-then-size-eq8 c).After-shared_slice_known-1) a.from a.size c.if-size-eq8.true c.requires.size_in_bounds r.result r.ensures)
+    ∙ ap (splice a.out.now (a.at + (a.index - a.skip - 1) * a.size)) (eight_bytes a.parts.now (bytes (goal.at.returns-then-size-eq8 c).After-shared_slice_known-1) a.from a.size c.if-size-eq8.true c.requires.size_in_bounds r.result c.u64_at.ensures)
     ∙ one_of a.at a.size a.skip a.count a.index (part a.parts.now a.from a.size) a.out.now (omega (arith, c.if-index-skip.false)) (omega (arith, c.if-count-k.false))
 
 pub copy_bytes-requires : goal.copy_bytes-requires

@@ -22,18 +22,18 @@ sound c =
 reaches : (c : After-payload_at-start) → let a = c.args in c.payload_at-start.result + a.long ≤ length a.parts.now
 reaches c =
     let a = c.args in
-    payload_reach a.parts.now c.loop-here.here a.order a.long c.loop-here-test.true (sound c) c.requires.0.wide c.payload_at-start.result c.payload_at-start.ensures
+    payload_reach a.parts.now c.loop-here.here a.order a.long c.loop-here-test.true (sound (goal.at.After-payload_at-start c).In-loop-here) c.requires.placeable.wide c.payload_at-start.result c.payload_at-start.ensures
 
 goes_on : (c : After-payload_at-start) → let a = c.args in c.loop-here.here < c.payload_at-start.result + a.long
 goes_on c =
     let a = c.args in
-    further a.parts.now c.loop-here.here a.order a.long c.loop-here-test.true (sound c) c.requires.0.wide c.payload_at-start.result c.payload_at-start.ensures
+    further a.parts.now c.loop-here.here a.order a.long c.loop-here-test.true (sound (goal.at.After-payload_at-start c).In-loop-here) c.requires.placeable.wide c.payload_at-start.result c.payload_at-start.ensures
 
 index_is : (c : After-u32_at-index) → let a = c.args in c.u32_at-index.result ≡ index_of (this a.parts.now c.loop-here.here)
 index_is c =
     let a = c.args in
     c.u32_at-index.ensures
-    ∙ index_read a.parts.now c.loop-here.here a.order a.long c.loop-here-test.true (sound c) c.requires.0.wide c.payload_at-start.result c.payload_at-start.ensures
+    ∙ index_read a.parts.now c.loop-here.here a.order a.long c.loop-here-test.true (sound (goal.at.After-u32_at-index c).In-loop-here) c.requires.placeable.wide c.payload_at-start.result c.payload_at-start.ensures
 
 pub loop-here-init : goal.loop-here-init
 loop-here-init c =
@@ -43,13 +43,13 @@ loop-here-init c =
 pub payload_at-start-requires : goal.payload_at-start-requires
 payload_at-start-requires c =
     let a = c.args in
-    header_there a.parts.now c.loop-here.here a.order a.long c.loop-here-test.true (sound (goal.at.payload_at-start-requires c).In-loop-here) c.requires.0.wide
+    header_there a.parts.now c.loop-here.here a.order a.long c.loop-here-test.true (sound (goal.at.payload_at-start-requires c).In-loop-here) c.requires.placeable.wide
 
 pub overflow_add-start : goal.overflow_add-start
-overflow_add-start c = omega (arith, reaches (goal.at.overflow_add-start c).After-payload_at-start, c.requires.0.wide)
+overflow_add-start c = omega (arith, reaches (goal.at.overflow_add-start c).After-payload_at-start, c.requires.placeable.wide)
 
 pub u32_at-index-requires : goal.u32_at-index-requires
-u32_at-index-requires c = omega (arith, reaches (goal.at.u32_at-index-requires c).After-payload_at-start, c.requires.0.wide)
+u32_at-index-requires c = omega (arith, reaches (goal.at.u32_at-index-requires c).After-payload_at-start, c.requires.placeable.wide)
 
 pub overflow_add-start-in-loop-here : goal.overflow_add-start-in-loop-here
 overflow_add-start-in-loop-here c = omega (arith, reaches (goal.at.overflow_add-start-in-loop-here c).After-payload_at-start, c.requires.size_bound)
@@ -73,9 +73,9 @@ loop-here-preserved c =
     let a = c.args in
     let l = c.loop-here in (
       subst (λ (x : List ℕ). Left a.parts.now a.order a.long a.from a.size a.skip a.count a.out.now a.at x (c.payload_at-start.result + a.long))
-          (sym (wrote.ensures ∙ ap (λ (k : ℕ). placed a.at a.size a.skip a.count k (part a.parts.now (c.payload_at-start.result + a.from) a.size) l.out) (index_is (goal.at.loop-here-preserved c).After-u32_at-index)))
-          (left_step a.parts.now a.order a.long a.from a.size a.skip a.count a.out.now a.at l.out l.here l.invariant.0 c.loop-here-test.true c.requires.0.wide c.payload_at-start.result c.payload_at-start.ensures c.requires.size_bound c.requires.size_in_bounds),
-      wrote.auto.1.1.1.1.1.1.0 ∙ l.invariant.1,
+          (sym (c.place_row.ensures ∙ ap (λ (k : ℕ). placed a.at a.size a.skip a.count k (part a.parts.now (c.payload_at-start.result + a.from) a.size) l.out) (index_is (goal.at.loop-here-preserved c).After-u32_at-index)))
+          (left_step a.parts.now a.order a.long a.from a.size a.skip a.count a.out.now a.at l.out l.here l.invariant.0 c.loop-here-test.true c.requires.placeable.wide c.payload_at-start.result c.payload_at-start.ensures c.requires.size_bound c.requires.size_in_bounds),
+      c.place_row.auto.out ∙ l.invariant.1,
     )
 
 pub shape_of-out : goal.shape_of-out

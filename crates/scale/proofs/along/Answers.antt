@@ -17,5 +17,5 @@ returns c =
     let a = c.args in
     record {
       value = refl;
-      near = time_near (Segment a.interval a.offset) a.i (passes _ c.well-formed.0.1, c.requires.finite_pair.0, passes _ c.well-formed.1.1.0.1, c.requires.finite_pair.1) (omega arith);
+      near = time_near (Segment a.interval a.offset) a.i (passes _ c.well_formed.0.1, c.requires.finite_pair.0, passes _ c.well_formed.1.1.0.1, c.requires.finite_pair.1) (omega arith);
     }

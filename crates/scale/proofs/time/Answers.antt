@@ -15,32 +15,32 @@ Timed i r rule = (r ≡ time_by (rule_as rule) i) × Near 1074 (exact_time (rule
 
 pub along-requires : goal.along-requires
 along-requires c = record {
-      finite_pair = subst FiniteRule c.rule-1.given.1 c.requires.finite_rule;
+      finite_pair = subst FiniteRule c.in-Segment.is c.requires.finite_rule;
       i_bound = omega arith;
     }
 
 pub after-requires : goal.after-requires
 after-requires c = record {
-      finite_pair = subst FiniteRule c.rule-in-Ris-1.given.1 c.requires.finite_rule;
+      finite_pair = subst FiniteRule c.in-Ris.is c.requires.finite_rule;
       i_bound = omega arith;
     }
 
 pub along-requires-in-Horizontal : goal.along-requires-in-Horizontal
 along-requires-in-Horizontal c = record {
-      finite_pair = subst FiniteRule c.rule-in-Horizontal-1.given.1 c.requires.finite_rule;
+      finite_pair = subst FiniteRule c.in-Horizontal.is c.requires.finite_rule;
       i_bound = omega arith;
     }
 
 pub returns-in-Segment : goal.returns-in-Segment
 returns-in-Segment c =
-    let told = subst (Timed c.args.i c.along.result) (sym c.rule-1.given.1) (c.along.ensures.value, c.along.ensures.near) in record {
+    let told = subst (Timed c.args.i c.along.result) (sym c.in-Segment.is) (c.along.ensures.value, c.along.ensures.near) in record {
       value = told.0;
       near = told.1;
     }
 
 pub returns-in-Ris : goal.returns-in-Ris
 returns-in-Ris c =
-    let told = subst (Timed c.args.i c.after.result) (sym c.rule-in-Ris-1.given.1) (c.after.ensures.value, c.after.ensures.near) in record {
+    let told = subst (Timed c.args.i c.after.result) (sym c.in-Ris.is) (c.after.ensures.value, c.after.ensures.near) in record {
       value = told.0;
       near = told.1;
     }
@@ -48,7 +48,7 @@ returns-in-Ris c =
 pub returns-in-Horizontal : goal.returns-in-Horizontal
 unfolding time_by
 returns-in-Horizontal c =
-    let told = subst (Timed c.args.i c.along-in-Horizontal.result) (sym c.rule-in-Horizontal-1.given.1) (c.along-in-Horizontal.ensures.value, c.along-in-Horizontal.ensures.near) in record {
+    let told = subst (Timed c.args.i c.along-in-Horizontal.result) (sym c.in-Horizontal.is) (c.along-in-Horizontal.ensures.value, c.along-in-Horizontal.ensures.near) in record {
       value = told.0;
       near = told.1;
     }

@@ -11,10 +11,10 @@ use Rattle.strips.proofs.strip.Goals as goal
 pub returns-then-number-ne0 : goal.returns-then-number-ne0
 unfolding leasts_left greatests_left
 returns-then-number-ne0 c =
-    let o = c.«open» in
+    let o = c.open-o in
     let a = c.args in
     let t = strip_of (opened a.block.now) a.array a.segment a.columns in
-    let e = c.judged-number.ensures a.block.now o.ensures in
+    let e = c.judged-number.ensures a.block.now c.open-o.ensures in
     let h = c.if-number-ne0.true in
     let low = length a.least.now in
     let high = length a.greatest.now in record {
@@ -25,17 +25,17 @@ returns-then-number-ne0 c =
 
 pub columns_of-requires : goal.columns_of-requires
 columns_of-requires c =
-    let o = c.«open» in
+    let o = c.open-o in
     let a = c.args in
-    record { opens = o.ensures; accepts = sym (c.judged-number.ensures a.block.now o.ensures) ∙ c.if-number-ne0.false }
+    record { opens = c.open-o.ensures; accepts = sym (c.judged-number.ensures a.block.now c.open-o.ensures) ∙ c.if-number-ne0.false }
 
 pub returns : goal.returns
 unfolding leasts_left greatests_left
 returns c =
-    let o = c.«open» in
+    let o = c.open-o in
     let a = c.args in
     let t = strip_of (opened a.block.now) a.array a.segment a.columns in
-    let e = sym (c.judged-number.ensures a.block.now o.ensures) ∙ c.if-number-ne0.false in
+    let e = sym (c.judged-number.ensures a.block.now c.open-o.ensures) ∙ c.if-number-ne0.false in
     let low = length a.least.now in
     let high = length a.greatest.now in record {
       value = c.columns_of.ensures.value ∙ drawn_is a.block.now a.array a.segment a.columns low high e;

@@ -16,14 +16,14 @@ use Rattle.strips.proofs.told.Goals as goal
 use Rattle.strips.proofs.told.Goals.{After-shared_slice_known-1, After-struct_known-1, After-struct_told-1, Start}
 
 abbrev samples : Start → ℕ → ℤ
-samples s = let a = s.args in sample_at a.order a.size a.block.now a.from
+samples c = let a = c.args in sample_at a.order a.size a.block.now a.from
 
-words : (c : After-shared_slice_known-1) → Words (samples c)
-words c j = let a = c.args in in_word a.order a.size a.block.now a.from j (below-index 256 a.block.now (λ i h. (c.type_inv.block i).fits)) c.requires.0.narrow
+words : (c : After-shared_slice_known-1) → Words (samples (goal.at.After-shared_slice_known-1 c).Start)
+words c j = let a = c.args in in_word a.order a.size a.block.now a.from j (below-index 256 a.block.now (λ i h. (c.type_inv.block i).fits)) c.requires.holds.narrow
 
 -- the greatest so far, as it is handed on
 top : (c : After-struct_told-1) → (let t = c.args.t in to_z w16 (of_z w16 t.top) ≡ t.top)
-top c = to_z-of_z w16 c.args.t.top (record { sfits = c.type_inv.t.1.1.1.1.0.1 })
+top c = to_z-of_z w16 c.args.t.top (record { sfits = c.struct_told-1.given.1.1.1.1.0.1 })
 
 pub first_behind-peak-requires : goal.first_behind-peak-requires
 first_behind-peak-requires c =
@@ -32,25 +32,25 @@ first_behind-peak-requires c =
     record {
       holds = c.requires.holds;
       done_le_count = seen.within;
-      by_index = λ j h. none_before t.top (to_z w16 (of_z w16 t.top)) (samples c j) (top (goal.at.first_behind-peak-requires c).After-struct_told-1) (seen.below j h);
+      by_index = λ j h. none_before t.top (to_z w16 (of_z w16 t.top)) (samples (goal.at.first_behind-peak-requires c).Start j) (top (goal.at.first_behind-peak-requires c).After-struct_told-1) (seen.below j h);
     }
 
 pub overflow_cast-result : goal.overflow_cast-result
 overflow_cast-result c =
     let a = c.args in
-    record { sfits = heights-most (samples c) (words (goal.at.overflow_cast-result c).After-shared_slice_known-1) a.count c.requires.le_count.1 a.t.heights c.requires.1.1.heights_are }
+    record { sfits = heights-most (samples (goal.at.overflow_cast-result c).Start) (words (goal.at.overflow_cast-result c).After-shared_slice_known-1) a.count c.requires.le_count.1 a.t.heights c.requires.seen.heights_are }
 
 -- the sum of all samples
-sum : (c : After-struct_known-1) → (let a = c.args in (strip a.size (samples c) a.count 0).sum ≡ (to_z w64 a.t.heights -ℤ to_z w64 (a.count * 32768)))
-unfolding c
+sum : (c : After-struct_known-1) → (let a = c.args in (strip a.size (samples (goal.at.After-struct_known-1 c).Start) a.count 0).sum ≡ (to_z w64 a.t.heights -ℤ to_z w64 (a.count * 32768)))
+unfolding strip
 sum c =
     let a = c.args in
-    sym (sum_is (samples c) (words c) a.count c.requires.le_count.1 a.t.heights c.requires.1.1.heights_are)
+    sym (sum_is (samples (goal.at.After-struct_known-1 c).Start) (words (goal.at.After-struct_known-1 c).After-shared_slice_known-1) a.count c.requires.le_count.1 a.t.heights c.requires.seen.heights_are)
 
 pub overflow_sub-result : goal.overflow_sub-result
 unfolding strip
 overflow_sub-result c =
-    subst (SFits w64) (sum (goal.at.overflow_sub-result c).After-struct_known-1) (sum_fits (samples c) c.args.count c.requires.le_count.1 (λ j h. words (goal.at.overflow_sub-result c).After-shared_slice_known-1 j))
+    subst (SFits w64) (sum (goal.at.overflow_sub-result c).After-struct_known-1) (sum_fits (samples (goal.at.overflow_sub-result c).Start) c.args.count c.requires.le_count.1 (λ j h. words (goal.at.overflow_sub-result c).After-shared_slice_known-1 j))
 
 pub returns : goal.returns
 unfolding strip
@@ -61,5 +61,5 @@ returns c w =
       refusal = 0;
       sum = (to_z-of_z w64 _ (sub-t11 c) ∙ sym (sum (goal.at.returns c).After-struct_known-1)) i;
       marks = p.1.marks_are i;
-      peak = peak_is a.size (samples c) (words (goal.at.returns c).After-shared_slice_known-1) a.count p.0.0 a.t p.1 (to_z w16 (of_z w16 a.t.top)) (top (goal.at.returns c).After-struct_told-1) c.first_behind-peak.result c.first_behind-peak.ensures i;
+      peak = peak_is a.size (samples (goal.at.returns c).Start) (words (goal.at.returns c).After-shared_slice_known-1) a.count p.0.0 a.t p.1 (to_z w16 (of_z w16 a.t.top)) (top (goal.at.returns c).After-struct_told-1) c.first_behind-peak.result c.first_behind-peak.ensures i;
     }

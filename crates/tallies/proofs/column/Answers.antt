@@ -17,16 +17,16 @@ use Rattle.tallies.proofs.column.Goals.{After-anew-t, After-shared_slice_known-1
 
 -- the samples, and what is known of them before this column
 abbrev samples : Start → ℕ → ℤ
-samples s = let a = s.args in sample_at a.order a.size a.block.now a.from
+samples c = let a = c.args in sample_at a.order a.size a.block.now a.from
 
-words : (c : After-shared_slice_known-1) → Words (samples c)
-words c j = let a = c.args in in_word a.order a.size a.block.now a.from j (below-index 256 a.block.now (λ i h. (c.type_inv.block i).fits)) c.requires.0.narrow
+words : (c : After-shared_slice_known-1) → Words (samples (goal.at.After-shared_slice_known-1 c).Start)
+words c j = let a = c.args in in_word a.order a.size a.block.now a.from j (below-index 256 a.block.now (λ i h. (c.type_inv.block i).fits)) c.requires.holds.narrow
 
-started : (c : After-anew-t) → (Seen c.args.size (samples c) c.args.a c.anew-t.result × Spanned (samples c) c.args.a c.args.a c.anew-t.result)
+started : (c : After-anew-t) → (Seen c.args.size (samples (goal.at.After-anew-t c).Start) c.args.a c.anew-t.result × Spanned (samples (goal.at.After-anew-t c).Start) c.args.a c.args.a c.anew-t.result)
 started c =
     let a = c.args in (
-      subst (Seen a.size (samples c) a.a) (sym c.anew-t.ensures) (seen_fresh a.size (samples c) a.a a c.requires.seen),
-      subst (Spanned (samples c) a.a a.a) (sym c.anew-t.ensures) (spanned_fresh (samples c) a.a a),
+      subst (Seen a.size (samples (goal.at.After-anew-t c).Start) a.a) (sym c.anew-t.ensures) (seen_fresh a.size (samples (goal.at.After-anew-t c).Start) a.a a.before c.requires.seen),
+      subst (Spanned (samples (goal.at.After-anew-t c).Start) a.a a.a) (sym c.anew-t.ensures) (spanned_fresh (samples (goal.at.After-anew-t c).Start) a.a a.before),
     )
 
 pub few-requires : goal.few-requires
@@ -39,12 +39,12 @@ few-requires c = record {
 
 -- what is ensured of a tally with the points of the column
 ended : (c : After-shared_slice_known-1) (t : Tally) → (let a = c.args in
-    Seen a.size (samples c) a.b t × Spanned (samples c) a.a a.b t
-    → (t.least ≡ least (run (samples c) a.a a.b)) × (t.greatest ≡ greatest (run (samples c) a.a a.b)) × Seen a.size (samples c) a.b t)
+    Seen a.size (samples (goal.at.After-shared_slice_known-1 c).Start) a.b t × Spanned (samples (goal.at.After-shared_slice_known-1 c).Start) a.a a.b t
+    → (t.least ≡ least (run (samples (goal.at.After-shared_slice_known-1 c).Start) a.a a.b)) × (t.greatest ≡ greatest (run (samples (goal.at.After-shared_slice_known-1 c).Start) a.a a.b)) × Seen a.size (samples (goal.at.After-shared_slice_known-1 c).Start) a.b t)
 ended c t (seen, spanned) =
     let a = c.args in
     let l = c.requires.a_lt_b.0 in
-    (spanned.least_is ∙ least_of (samples c) (words c) a.a a.b l, spanned.greatest_is ∙ greatest_of (samples c) (words c) a.a a.b l, seen)
+    (spanned.least_is ∙ least_of (samples (goal.at.After-shared_slice_known-1 c).Start) (words c) a.a a.b l, spanned.greatest_is ∙ greatest_of (samples (goal.at.After-shared_slice_known-1 c).Start) (words c) a.a a.b l, seen)
 
 pub returns-then-b-a-lt8 : goal.returns-then-b-a-lt8
 returns-then-b-a-lt8 c = let r = ended (goal.at.returns-then-b-a-lt8 c).After-shared_slice_known-1 c.few.result (c.few.ensures.seen_2, c.few.ensures.spanned_2) in record {

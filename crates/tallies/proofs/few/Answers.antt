@@ -28,23 +28,22 @@ pub sample-z-requires : goal.sample-z-requires
 sample-z-requires c = fewer c.requires.holds _ (omega arith)
 
 pub at_rail-requires : goal.at_rail-requires
-at_rail-requires c = c.requires.0.narrow
+at_rail-requires c = c.requires.holds.narrow
 
 -- the sample is that of the point, so its extent and its mark are
-sampled : (c : After-one) → (let s = c in
-    let a = s.args in
+sampled : (c : After-one) → (let a = c.args in
     let f = sample_at a.order a.size a.block.now a.from in
     let k = c.loop-k.k in
     (c.one.result ≡ extent_of (run f k (k + 1))) × (c.mark_number-mark.result ≡ mark_count_of a.size (run f k (k + 1))))
-unfolding c
+unfolding mark_count_of
 sampled c =
     let a = c.args in
     let f : ℕ → ℤ = sample_at a.order a.size a.block.now a.from in
     let k = c.loop-k.k in
     let r = c.sample-z in
-    let z : to_z w16 (of_z w16 r.result) ≡ f k = to_z-of_z w16 r.result (record { sfits = r.type-inv }) ∙ r.ensures in (
+    let z : to_z w16 (of_z w16 r.result) ≡ f k = to_z-of_z w16 r.result (record { sfits = r.type_inv }) ∙ c.sample-z.ensures in (
       c.one.ensures ∙ ap (λ (x : ℤ). extent_of (x ∷ [])) z ∙ ap extent_of (sym (run-one f k)),
-      c.mark_number-mark.ensures ∙ ap mark_number (c.at_rail.ensures ∙ ap (at_rail a.size) z) ∙ sym (add-zero (mark_number (at_rail a.size (f k)))) ∙ ap (c a.size) (sym (run-one f k)),
+      c.mark_number-mark.ensures ∙ ap mark_number (c.at_rail.ensures ∙ ap (at_rail a.size) z) ∙ sym (add-zero (mark_number (at_rail a.size (f k)))) ∙ ap (mark_count_of a.size) (sym (run-one f k)),
     )
 
 pub join-t-requires : goal.join-t-requires
@@ -52,7 +51,7 @@ join-t-requires c =
     let a = c.args in
     let l = c.loop-k in
     let f : ℕ → ℤ = sample_at a.order a.size a.block.now a.from in
-    let w : Words f = λ j. in_word a.order a.size a.block.now a.from j (below-index 256 a.block.now (λ i h. (c.type_inv.block i).fits)) c.requires.0.narrow in
+    let w : Words f = λ j. in_word a.order a.size a.block.now a.from j (below-index 256 a.block.now (λ i h. (c.type_inv.block i).fits)) c.requires.holds.narrow in
     next_fits f l.k (l.k + 1) (omega arith) l.t c.one.result (sampled (goal.at.join-t-requires c).After-one).0 a.size c.mark_number-mark.result (sampled (goal.at.join-t-requires c).After-one).1 l.invariant.2 w
     (omega (arith, c.loop-k-test.true, c.requires.a_le_b.1))
 

@@ -23,18 +23,18 @@ pub returns : goal.returns
 returns c =
     let t = c.args.t in
     let e = c.args.e in
-    let ft = c.type_inv.t in
-    let fe = c.type_inv.e in
+    let ft = c.struct_told-1.given in
+    let fe = c.struct_told-2-1.given in
     let t-least : SFits w16 t.least = record { sfits = ft.0.1 } in
     let t-greatest : SFits w16 t.greatest = record { sfits = ft.1.0.1 } in
     let t_top : SFits w16 t.top = record { sfits = ft.1.1.1.1.0.1 } in
     let e-least : SFits w16 e.least = record { sfits = fe.0.1 } in
     let e-greatest : SFits w16 e.greatest = record { sfits = fe.1.0.1 } in
     λ i. record {
-      least = both lesser t.least e.least c.lesser-least.result t-least e-least (record { sfits = c.lesser-least.type-inv }) c.lesser-least.ensures i;
-      greatest = both greater t.greatest e.greatest c.greater-greatest.result t-greatest e-greatest (record { sfits = c.greater-greatest.type-inv }) c.greater-greatest.ensures i;
+      least = both lesser t.least e.least c.lesser-least.result t-least e-least (record { sfits = c.lesser-least.type_inv }) c.lesser-least.ensures i;
+      greatest = both greater t.greatest e.greatest c.greater-greatest.result t-greatest e-greatest (record { sfits = c.greater-greatest.type_inv }) c.greater-greatest.ensures i;
       heights = t.heights + e.heights;
       marks = t.marks + c.args.marks;
-      top = both greater t.top e.greatest c.greater-top.result t_top e-greatest (record { sfits = c.greater-top.type-inv }) c.greater-top.ensures i;
+      top = both greater t.top e.greatest c.greater-top.result t_top e-greatest (record { sfits = c.greater-top.type_inv }) c.greater-top.ensures i;
       near = (c.nearer-near.ensures ∙ ap (λ (b : Bool). cond b c.args.at t.near) (ap₂ lt_z (to_z-of_z w16 t.top t_top) (to_z-of_z w16 e.greatest e-greatest))) i;
     }

@@ -28,8 +28,8 @@ pub loop-i-init : goal.loop-i-init
 loop-i-init c = (omega arith, c.requires.a_le_b.0, c.requires.seen, c.requires.spanned)
 
 -- of the points that a turn takes in
-taken : (c : After-end_of-e) → (let i = c.loop-i.i in let e = c.end_of_lem.result in (i < e) × (e ≤ c.args.b) × (e ≤ i + 256))
-taken c = ends c.loop-i.i c.args.b c.end_of_lem.result c.loop-i-test.true c.end_of_lem.ensures
+taken : (c : After-end_of-e) → (let i = c.loop-i.i in let e = c.end_of-e.result in (i < e) × (e ≤ c.args.b) × (e ≤ i + 256))
+taken c = ends c.loop-i.i c.args.b c.end_of-e.result c.loop-i-test.true c.end_of-e.ensures
 
 pub measure-x-requires : goal.measure-x-requires
 measure-x-requires c = record {
@@ -50,8 +50,8 @@ join-t-requires c =
     let l = c.loop-i in
     let t = taken (goal.at.join-t-requires c).After-end_of-e in
     let f : ℕ → ℤ = sample_at a.order a.size a.block.now a.from in
-    let w : Words f = λ j. in_word a.order a.size a.block.now a.from j (below-index 256 a.block.now (λ i h. (c.type_inv.block i).fits)) c.requires.0.narrow in
-    next_fits f l.i c.end_of_lem.result t.0 l.t c.measure-x.result c.measure-x.ensures a.size c.marks_of-m.result c.marks_of-m.ensures l.invariant.2 w (omega (arith, t.1, c.requires.a_le_b.1))
+    let w : Words f = λ j. in_word a.order a.size a.block.now a.from j (below-index 256 a.block.now (λ i h. (c.type_inv.block i).fits)) c.requires.holds.narrow in
+    next_fits f l.i c.end_of-e.result t.0 l.t c.measure-x.result c.measure-x.ensures a.size c.marks_of-m.result c.marks_of-m.ensures l.invariant.2 w (omega (arith, t.1, c.requires.a_le_b.1))
 
 pub loop-i-smaller : goal.loop-i-smaller
 loop-i-smaller c = let t = taken (goal.at.loop-i-smaller c).After-end_of-e in omega (arith, t.0, t.1)
@@ -61,7 +61,7 @@ loop-i-preserved c =
     let a = c.args in
     let l = c.loop-i in
     let t = taken (goal.at.loop-i-preserved c).After-end_of-e in
-    let e = c.end_of_lem.result in
+    let e = c.end_of-e.result in
     let f : ℕ → ℤ = sample_at a.order a.size a.block.now a.from in (
       omega (arith, l.invariant.0, t.0),
       t.1,

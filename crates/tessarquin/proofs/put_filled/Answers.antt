@@ -27,5 +27,5 @@ returns c =
     let ns : List ℕ = value_bits a.block.now a.array a.segment in
     let e : a.place.points ≡ points (opened a.block.now).head = points_are a.block.now (all-bytes (goal.at.returns c).After-shared_slice_known-1) a.array a.segment a.place c.requires.place_value c.requires.segment_value in
     c.put_u64.ensures
-    ∙ (λ i. splice (v.ensures.0 i) (z i) (bytes 0 8 (v.ensures.1 i)))
+    ∙ (λ i. splice (c.put_values-marks.ensures.out_after i) (z i) (bytes 0 8 (c.put_values-marks.ensures.value i)))
     ∙ number_then a.out.now 0 a.place.points ns (mark_count (opened a.block.now) a.array a.segment) (length-values a.block.now a.array a.segment ∙ sym e) (omega (arith, c.requires.points_in_bounds))

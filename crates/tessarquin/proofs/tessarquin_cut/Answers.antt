@@ -25,7 +25,7 @@ returns-then-w-ne0 c =
     let a = c.args in
     let w = c.cut-w in
     let r =
-    cut-refused a.block.now (setup a.sp a.np a.fp a.sn) a.order a.out.now a.answer.now (omega (arith, c.if-answer-lt16.false)) w.result _ (record { answers = w.ensures.0; leaves = w.ensures.1 }) c.if-w-ne0.true in
+    cut-refused a.block.now (setup a.sp a.np a.fp a.sn) a.order a.out.now a.answer.now (omega (arith, c.if-answer-lt16.false)) w.result _ (record { answers = c.cut-w.ensures.value; leaves = c.cut-w.ensures.out_after }) c.if-w-ne0.true in
     record {
       value = r.0;
       out_after = r.1;
@@ -37,7 +37,7 @@ returns c =
     let a = c.args in
     let w = c.cut-w in
     let r =
-    cut_answered a.block.now (setup a.sp a.np a.fp a.sn) a.order a.out.now a.answer.now (omega (arith, c.if-answer-lt16.false)) w.result _ (record { answers = w.ensures.0; leaves = w.ensures.1 }) c.if-w-ne0.false _ c.put_pair.ensures in
+    cut_answered a.block.now (setup a.sp a.np a.fp a.sn) a.order a.out.now a.answer.now (omega (arith, c.if-answer-lt16.false)) w.result _ (record { answers = c.cut-w.ensures.value; leaves = c.cut-w.ensures.out_after }) c.if-w-ne0.false _ c.put_pair.ensures in
     record {
       value = r.0;
       out_after = r.1;

@@ -44,7 +44,7 @@ pub returns-then-answer-place : goal.returns-then-answer-place
 unfolding fill_number fill_left
 returns-then-answer-place c =
     let a = c.args in
-    let told = own_short (walk_refusal a.block.now a.array a.segment) (fill_bytes a.block.now a.array a.segment) a.answer.now (taken c) (omega (arith, c.if-answer-place.true, long c)) in record {
+    let told = own_short (walk_refusal a.block.now a.array a.segment) (fill_bytes a.block.now a.array a.segment) a.answer.now (taken (goal.at.returns-then-answer-place c).Else-place-ne0) (omega (arith, c.if-answer-place.true, long (goal.at.returns-then-answer-place c).Else-place-ne0)) in record {
       value = told.0;
       answer_after = told.1;
     }
@@ -52,7 +52,7 @@ returns-then-answer-place c =
 pub put_filled-requires : goal.put_filled-requires
 put_filled-requires c = record {
       place_value = c.place_of-place.ensures;
-      segment_value = taken c;
+      segment_value = taken (goal.at.put_filled-requires c).Else-place-ne0;
       points_in_bounds = omega (arith, c.if-answer-place.false);
     }
 
@@ -60,7 +60,7 @@ pub returns : goal.returns
 unfolding fill_number fill_left
 returns c =
     let a = c.args in
-    let r = own_left (walk_refusal a.block.now a.array a.segment) (fill_bytes a.block.now a.array a.segment) a.answer.now (taken c) (omega (arith, c.if-answer-place.false, long c)) in
+    let r = own_left (walk_refusal a.block.now a.array a.segment) (fill_bytes a.block.now a.array a.segment) a.answer.now (taken (goal.at.returns c).Else-place-ne0) (omega (arith, c.if-answer-place.false, long (goal.at.returns c).Else-place-ne0)) in
     record {
       value = r.0;
       answer_after = c.put_filled.ensures ∙ r.1;

@@ -30,7 +30,7 @@ clean : (c : Else-p-ne0) → T (not (is_nan c.point-p.result.value)) × T (not (
 clean c =
     let a = c.args in
     let e = c.point-p.ensures in
-    let q = answer_near a.block.now a.array a.segment a.point (bytes c) (sym (ap (λ (x : Point). x.refusal) e) ∙ c.if-p-ne0.false) in
+    let q = answer_near a.block.now a.array a.segment a.point (bytes (goal.at.Else-p-ne0 c).After-shared_slice_known-1) (sym (ap (λ (x : Point). x.refusal) e) ∙ c.if-p-ne0.false) in
     subst (λ (x : Point). T (not (is_nan x.value)) × T (not (is_nan x.time))) (sym e) (near_no_nan q.0, near_no_nan q.1)
 
 pub returns-then-p-ne0 : goal.returns-then-p-ne0
@@ -64,7 +64,7 @@ returns c =
     let p = c.point-p in
     let z : point_refusal a.block.now a.array a.segment a.point ≡ 0 = sym (number (goal.at.returns c).After-point-p) ∙ c.if-p-ne0.false in
     let r = own_left (point_refusal a.block.now a.array a.segment a.point) (point_bytes a.block.now a.array a.segment a.point) a.answer.now z (omega (arith, c.if-answer-lt24.false, point_length a.block.now a.array a.segment a.point)) in
-    let e = p.ensures ∙ point_answer a.block.now a.array a.segment a.point z in
+    let e = c.point-p.ensures ∙ point_answer a.block.now a.array a.segment a.point z in
     let value = c.bits.ensures in
     let time = c.bits-2.ensures in
     let mark = c.mark_number-mark.ensures in record {

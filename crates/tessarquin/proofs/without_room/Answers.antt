@@ -11,4 +11,4 @@ pub returns : goal.returns
 returns c =
     let a = c.args in
     let w = c.cut-w in
-    calls.number a.block.now (setup_as a.setup) a.order _ w.result _ (record { answers = w.ensures.0; leaves = w.ensures.1 })
+    calls.number a.block.now (setup_as a.setup) a.order _ w.result _ (record { answers = c.cut-w.ensures.value; leaves = c.cut-w.ensures.out_after })

@@ -9,8 +9,8 @@ use Rattle.arrivals.proofs.times.rise_within.Goals as goal
 pub place_rows-requires : goal.place_rows-requires
 place_rows-requires c =
     record {
-      placeable = c.requires.0.placeable;
-      size_bound = c.requires.0.inside;
+      placeable = c.requires.timed.placeable;
+      size_bound = c.requires.timed.inside;
       count_in_bounds = c.requires.count_in_bounds.0;
       size_in_bounds = omega (arith, c.requires.count_in_bounds.1);
     }
@@ -18,7 +18,7 @@ place_rows-requires c =
 pub ascend-requires : goal.ascend-requires
 ascend-requires c =
     let a = c.args in
-    λ j h. (omega (arith, c.place_rows.auto.1.1.1.1.1.1.1.0, c.requires.count_in_bounds.1), window_finite a.order a.long a.trig a.skip a.count a.parts.now c.requires.timed c.requires.count_in_bounds.0 _ c.place_rows.ensures j h)
+    λ j h. (omega (arith, c.place_rows.auto.out, c.requires.count_in_bounds.1), window_finite a.order a.long a.trig a.skip a.count a.parts.now c.requires.timed c.requires.count_in_bounds.0 _ c.place_rows.ensures j h)
 
 pub returns : goal.returns
 returns c =

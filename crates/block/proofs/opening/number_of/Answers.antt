@@ -34,7 +34,7 @@ keeps6 c = passes c.is_counted.ensures c.if-not-is_counted.false-raw
 
 kept : (c : Else-not-is_placed) → let a = c.args in Kept a.block.now a.start a.length a.fields
 kept c =
-    record { names_kept = keeps3 c; forms = keeps4 c; tiling = keeps5 c; counts = keeps6 c; places = passes c.is_placed.ensures c.if-not-is_placed.false-raw }
+    record { names_kept = keeps3 (goal.at.Else-not-is_placed c).Else-not-is_named; forms = keeps4 (goal.at.Else-not-is_placed c).Else-not-is_formed; tiling = keeps5 (goal.at.Else-not-is_placed c).Else-not-is_tiled; counts = keeps6 (goal.at.Else-not-is_placed c).Else-not-is_counted; places = passes c.is_placed.ensures c.if-not-is_placed.false-raw }
 
 pub is_named-requires : goal.is_named-requires
 is_named-requires c = room2 _ _ _ c.requires.framed
@@ -78,5 +78,5 @@ number_of-requires c =
 
 pub returns : goal.returns
 returns c =
-    c.number_of_lem.ensures
+    c.number_of.ensures
     ∙ rung_tables _ _ _ c.requires.framed c.args.fields c.requires.fields_value (kept (goal.at.returns c).Else-not-is_placed) (bytes (goal.at.returns c).After-shared_slice_known-1) c.layout_of-layout.result c.layout_of-layout.ensures

@@ -20,21 +20,21 @@ bytes c = below-index 256 c.args.block.now (λ i h. (c.type_inv.block i).fits)
 
 -- rule 1 is kept, and this is what its header says
 framed : (c : Else-not-header) → all (frame c.args.block.now) ≡ true
-framed c = let h = c.header_of-header in passes (framed_is c.args.block.now h.result h.ensures) c.if-not-header.false
+framed c = let h = c.header_of-header in passes (framed_is c.args.block.now h.result c.header_of-header.ensures) c.if-not-header.false
 
 header : (c : Else-not-header) → c.header_of-header.result ≡ framed_as c.args.block.now
-header c = let h = c.header_of-header in framed-says c.args.block.now h.result h.ensures (framed c)
+header c = let h = c.header_of-header in framed-says c.args.block.now h.result c.header_of-header.ensures (framed c)
 
 -- and rule 2
 sized : (c : Else-not-is_sized) → let h = c.header_of-header.result in Framed c.args.block.now h.start h.length
 sized c =
-    record { frames = framed c; sizes = passes c.is_sized.ensures c.if-not-is_sized.false-raw; starts = ap (λ (h : Header). h.start) (header c); lasts = ap (λ (h : Header). h.length) (header c) }
+    record { frames = framed (goal.at.Else-not-is_sized c).Else-not-header; sizes = passes c.is_sized.ensures c.if-not-is_sized.false-raw; starts = ap (λ (h : Header). h.start) (header (goal.at.Else-not-is_sized c).Else-not-header); lasts = ap (λ (h : Header). h.length) (header (goal.at.Else-not-is_sized c).Else-not-header) }
 
 pub returns-then-not-header : goal.returns-then-not-header
 returns-then-not-header c =
     let s = c.args.block.now in
     let h = c.header_of-header in
-    c.refused.ensures ∙ refused_is s 1 (omega arith) (rung1 s (fails (framed_is s h.result h.ensures) c.if-not-header.true))
+    c.refused.ensures ∙ refused_is s 1 (omega arith) (rung1 s (fails (framed_is s h.result c.header_of-header.ensures) c.if-not-header.true))
 
 pub is_sized-requires : goal.is_sized-requires
 is_sized-requires c =
@@ -60,12 +60,12 @@ number_of-number-requires c = record {
 
 pub returns-then-number-ne0 : goal.returns-then-number-ne0
 returns-then-number-ne0 c =
-    let n = c.number_of_lem in
-    c.refused-then-number-ne0.ensures ∙ refused_is _ n.result (omega arith) n.ensures
+    let n = c.number_of-number in
+    c.refused-then-number-ne0.ensures ∙ refused_is _ n.result (omega arith) c.number_of-number.ensures
 
 -- no rule is broken
 kept : (c : Else-number-ne0) → refusal c.args.block.now ≡ 0
-kept c = sym c.number_of_lem.ensures ∙ c.if-number-ne0.false
+kept c = sym c.number_of-number.ensures ∙ c.if-number-ne0.false
 
 pub accepted-requires : goal.accepted-requires
 accepted-requires c =

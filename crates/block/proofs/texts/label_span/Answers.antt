@@ -21,9 +21,9 @@ pub before_zero-requires : goal.before_zero-requires
 before_zero-requires c = omega (arith, room (goal.at.before_zero-requires c).After-shared_slice_known-1)
 
 pub overflow_add-to : goal.overflow_add-to
-overflow_add-to c = omega (arith, room (goal.at.overflow_add-to c).After-shared_slice_known-1, c-zero.ensures.0)
+overflow_add-to c = omega (arith, room (goal.at.overflow_add-to c).After-shared_slice_known-1, c.before_zero.ensures.0)
 
 pub returns : goal.returns
 returns c =
-    let n = c-zero in
-    label_at c.args.block.now (bytes (goal.at.returns c).After-shared_slice_known-1) c.args.o c.requires.o_value c.requires.refusal_value n.result n.ensures.1
+    let n = c.before_zero in
+    label_at c.args.block.now (bytes (goal.at.returns c).After-shared_slice_known-1) c.args.o c.requires.o_value c.requires.refusal_value n.result c.before_zero.ensures.1

@@ -13,7 +13,7 @@ bytes c = below-index 256 c.args.block.now (λ i h. (c.type_inv.block i).fits)
 
 pub text_span-s-requires : goal.text_span-s-requires
 text_span-s-requires c = record {
-      o_value = c.«open».ensures;
+      o_value = c.open-o.ensures;
       bytes = bytes (goal.at.text_span-s-requires c).After-shared_slice_known-1;
     }
 
@@ -22,5 +22,5 @@ returns c =
     let t = c.text_span-s.ensures in
     record {
       result_value = t.bytes;
-      ref_ptr_value = ap (λ (n : ℕ). moved n c.args.block.ptr) t.starts;
+      ref_ptr_value = ap (λ (n : ℕ). moved n c.args.block.ref_ptr) t.starts;
     }

@@ -24,7 +24,7 @@ returns-in-Point c =
 pub returns-in-Done : goal.returns-in-Done
 returns-in-Done c =
     let a = c.args in
-    let e = sym c.enum_told-1.given.1 ∙ c.walked.ensures in record {
+    let e = sym c.in-Done.is ∙ c.walked.ensures in record {
       value = ap (λ (r : Step). length (values_of r)) e;
       out_after = copied-fits [] a.out.now (omega arith) ∙ ap (λ (r : Step). copied (values_of r) a.out.now) e;
       mark_after = copied-fits [] a.mark.now (omega arith) ∙ ap (λ (r : Step). copied (map mark_number (marks_of r)) a.mark.now) e;

@@ -32,7 +32,7 @@ returns-then-place-ne0 c =
     let a = c.args in
     let p = c.place_of-place in
     let room : ℕ = min (min (length a.values.now) (length a.times.now)) (length a.marks.now) in
-    let told = refused a.block.now a.array a.segment p.result.refusal a.values.now a.times.now a.marks.now (number-refused a.block.now a.array a.segment p.result p.ensures room c.if-place-ne0.true) c.if-place-ne0.true in record {
+    let told = refused a.block.now a.array a.segment p.result.refusal a.values.now a.times.now a.marks.now (number-refused a.block.now a.array a.segment p.result c.place_of-place.ensures room c.if-place-ne0.true) c.if-place-ne0.true in record {
       value = told.0;
       values_after = told.1.0;
       times_after = told.1.1.0;
@@ -51,12 +51,12 @@ module _ (c : Else-place-ne0) where
   short h =
       let a = start.args in
       let p = c.place_of-place in
-      number_short a.block.now a.array a.segment p.result p.ensures (walks a.block.now a.array a.segment p.result p.ensures c.if-place-ne0.false) room h
+      number_short a.block.now a.array a.segment p.result c.place_of-place.ensures (walks a.block.now a.array a.segment p.result c.place_of-place.ensures c.if-place-ne0.false) room h
 
 pub returns-then-values-place : goal.returns-then-values-place
 returns-then-values-place c =
-    let a = (start c).args in
-    let told = refused a.block.now a.array a.segment 13 a.values.now a.times.now a.marks.now (short c (omega (arith, c.if-values-place.true))) (λ z. omega arith) in record {
+    let a = (start (goal.at.returns-then-values-place c).Else-place-ne0).args in
+    let told = refused a.block.now a.array a.segment 13 a.values.now a.times.now a.marks.now (short (goal.at.returns-then-values-place c).Else-place-ne0 (omega (arith, c.if-values-place.true))) (λ z. omega arith) in record {
       value = told.0;
       values_after = told.1.0;
       times_after = told.1.1.0;
@@ -65,8 +65,8 @@ returns-then-values-place c =
 
 pub returns-then-times-place : goal.returns-then-times-place
 returns-then-times-place c =
-    let a = (start c).args in
-    let told = refused a.block.now a.array a.segment 13 a.values.now a.times.now a.marks.now (short c (omega (arith, c.if-times-place.true))) (λ z. omega arith) in record {
+    let a = (start (goal.at.returns-then-times-place c).Else-place-ne0).args in
+    let told = refused a.block.now a.array a.segment 13 a.values.now a.times.now a.marks.now (short (goal.at.returns-then-times-place c).Else-place-ne0 (omega (arith, c.if-times-place.true))) (λ z. omega arith) in record {
       value = told.0;
       values_after = told.1.0;
       times_after = told.1.1.0;
@@ -75,8 +75,8 @@ returns-then-times-place c =
 
 pub returns-then-marks-place : goal.returns-then-marks-place
 returns-then-marks-place c =
-    let a = (start c).args in
-    let told = refused a.block.now a.array a.segment 13 a.values.now a.times.now a.marks.now (short c (omega (arith, c.if-marks-place.true))) (λ z. omega arith) in record {
+    let a = (start (goal.at.returns-then-marks-place c).Else-place-ne0).args in
+    let told = refused a.block.now a.array a.segment 13 a.values.now a.times.now a.marks.now (short (goal.at.returns-then-marks-place c).Else-place-ne0 (omega (arith, c.if-marks-place.true))) (λ z. omega arith) in record {
       value = told.0;
       values_after = told.1.0;
       times_after = told.1.1.0;
@@ -85,23 +85,23 @@ returns-then-marks-place c =
 
 pub put_steps-requires : goal.put_steps-requires
 put_steps-requires c =
-    let a = (start c).args in
+    let a = (start (goal.at.put_steps-requires c).Else-place-ne0).args in
     let p = c.place_of-place in
     record {
-      first_value = p.ensures;
-      segment_value = walks a.block.now a.array a.segment p.result p.ensures c.if-place-ne0.false;
+      first_value = c.place_of-place.ensures;
+      segment_value = walks a.block.now a.array a.segment p.result c.place_of-place.ensures c.if-place-ne0.false;
       points_in_bounds = (c.if-values-place.false, c.if-times-place.false, c.if-marks-place.false);
     }
 
 pub returns : goal.returns
 unfolding values_left times_left marks_left
 returns c =
-    let a = (start c).args in
+    let a = (start (goal.at.returns c).Else-place-ne0).args in
     let p = c.place_of-place in
-    let z = walks a.block.now a.array a.segment p.result p.ensures c.if-place-ne0.false in
-    let m = points_are a.block.now a.array a.segment p.result p.ensures z in
-    let fits : p.result.points ≤ room c = omega (arith, c.if-values-place.false, c.if-times-place.false, c.if-marks-place.false) in
-    let e = number_none a.block.now a.array a.segment p.result p.ensures z (room c) fits in
+    let z = walks a.block.now a.array a.segment p.result c.place_of-place.ensures c.if-place-ne0.false in
+    let m = points_are a.block.now a.array a.segment p.result c.place_of-place.ensures z in
+    let fits : p.result.points ≤ room (goal.at.returns c).Else-place-ne0 = omega (arith, c.if-values-place.false, c.if-times-place.false, c.if-marks-place.false) in
+    let e = number_none a.block.now a.array a.segment p.result c.place_of-place.ensures z (room (goal.at.returns c).Else-place-ne0) fits in
     let number : ℕ = steps_number a.block.now a.array a.segment a.values.now a.times.now a.marks.now in
     record {
       value = e;

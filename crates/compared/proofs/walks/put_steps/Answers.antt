@@ -44,7 +44,7 @@ module _ (c : In-Point-2) where
       let l = loop.loop in
       let r = c.step_at in
       let v = c.value-1.given in
-      handed a.block.now a.array a.segment (bytes c) start.pre.1.0 l.k l.inv.0 l.place l.inv.1 r.result r.ensures v.0.0 v.0.1.0 v.0.1.1.0 v.1
+      handed a.block.now a.array a.segment (bytes c) start.pre.1.0 l.k l.inv.0 l.place l.inv.1 r.result c.step_at.ensures v.0.0 v.0.1.0 v.0.1.1.0 v.1
 
   within : (loop.loop.k < length loop.loop.values) × (loop.loop.k < length loop.loop.times) × (loop.loop.k < length loop.loop.marks)
   within =
@@ -59,44 +59,44 @@ loop-value-init c =
     (omega arith, c.requires.first_value, refl, refl, refl, over_none a.values.now 0, over_none a.times.now 0, over_none a.marks.now 0)
 
 pub offset_bounds-values-k : goal.offset_bounds-values-k
-offset_bounds-values-k c = omega (arith, (within c).0)
+offset_bounds-values-k c = omega (arith, (within (goal.at.offset_bounds-values-k c).In-Point-2).0)
 
 pub bounds-values-k : goal.bounds-values-k
-bounds-values-k c = (within c).0
+bounds-values-k c = (within (goal.at.bounds-values-k c).In-Point-2).0
 
 pub offset_bounds-times-k : goal.offset_bounds-times-k
-offset_bounds-times-k c = omega (arith, (within c).1)
+offset_bounds-times-k c = omega (arith, (within (goal.at.offset_bounds-times-k c).In-Point-2).1)
 
 pub bounds-times-k : goal.bounds-times-k
-bounds-times-k c = (within c).1
+bounds-times-k c = (within (goal.at.bounds-times-k c).In-Point-2).1
 
 pub overflow_cast-marks : goal.overflow_cast-marks
 overflow_cast-marks c = omega (arith, c.mark_number.ensures, mark_le c.value-1.given.0.1.1.0)
 
 pub bounds-marks-k : goal.bounds-marks-k
-bounds-marks-k c = (within c).2
+bounds-marks-k c = (within (goal.at.bounds-marks-k c).In-Point-2).2
 
 pub overflow_add-k : goal.overflow_add-k
-overflow_add-k c = omega (arith, (within c).0)
+overflow_add-k c = omega (arith, (within (goal.at.overflow_add-k c).In-Point-2).0)
 
 pub loop-value-smaller : goal.loop-value-smaller
-loop-value-smaller c = omega (arith, (next c).0)
+loop-value-smaller c = omega (arith, (next (goal.at.loop-value-smaller c).In-Point-2).0)
 
 pub loop-value-preserved : goal.loop-value-preserved
 loop-value-preserved c =
-    let l = (loop c).loop in
-    let a = (start c).args in
-    let n = next c in
-    let w = within c in
+    let l = (loop (goal.at.loop-value-preserved c).In-Point-2).loop in
+    let a = (start (goal.at.loop-value-preserved c).In-Point-2).args in
+    let n = next (goal.at.loop-value-preserved c).In-Point-2 in
+    let w = within (goal.at.loop-value-preserved c).In-Point-2 in
     let v = c.value-1.given.0 in (
       omega (arith, n.0),
       c.after-place.ensures ∙ ap after_of l.inv.1 ∙ ap (place_after a.block.now a.array a.segment) (sym (add-one l.k)),
       simp length-set l.inv.2,
       simp length-set l.inv.3,
       simp length-set l.inv.4,
-      map-one (value (wave c) a.array a.segment) a.values.now l.values 0 0 l.k l.k l.k v.0 n.1 (omega arith) (omega arith) (omega (arith, w.0, l.inv.2)) l.inv.5,
-      map-one (time (wave c) a.segment) a.times.now l.times 0 0 l.k l.k l.k v.1.0 n.2 (omega arith) (omega arith) (omega (arith, w.1, l.inv.3)) l.inv.6,
-      map-one (mark_byte (wave c) a.array a.segment) a.marks.now l.marks 0 0 l.k l.k l.k _ (c.mark_number.ensures ∙ ap mark_number n.3) (omega arith) (omega arith) (omega (arith, w.2, l.inv.4)) l.inv.7,
+      map-one (value (wave (goal.at.loop-value-preserved c).In-Point-2) a.array a.segment) a.values.now l.values 0 0 l.k l.k l.k v.0 n.1 (omega arith) (omega arith) (omega (arith, w.0, l.inv.2)) l.inv.5,
+      map-one (time (wave (goal.at.loop-value-preserved c).In-Point-2) a.segment) a.times.now l.times 0 0 l.k l.k l.k v.1.0 n.2 (omega arith) (omega arith) (omega (arith, w.1, l.inv.3)) l.inv.6,
+      map-one (mark_byte (wave (goal.at.loop-value-preserved c).In-Point-2) a.array a.segment) a.marks.now l.marks 0 0 l.k l.k l.k _ (c.mark_number.ensures ∙ ap mark_number n.3) (omega arith) (omega arith) (omega (arith, w.2, l.inv.4)) l.inv.7,
     )
 
 pub shape_of-values : goal.shape_of-values
@@ -114,7 +114,7 @@ returns c =
     let r = c.step_at in
     let a = c.args in
     let w : Wave = opened a.block.now in
-    let q = stopped a.block.now a.array a.segment (bytes (goal.at.returns c).After-shared_slice_known-1) c.requires.segment_value l.k l.invariant.0 l.place l.invariant.1 r.result r.ensures c.enum_told-1.given.1 in
+    let q = stopped a.block.now a.array a.segment (bytes (goal.at.returns c).After-shared_slice_known-1) c.requires.segment_value l.k l.invariant.0 l.place l.invariant.1 r.result c.step_at.ensures c.enum_told-1.given.1 in
     let e : l.k ≡ a.first.points = omega (arith, q, points_are a.block.now a.array a.segment a.first c.requires.first_value c.requires.segment_value) in record {
       values_after = all-written (value w a.array a.segment) a.values.now l.values l.k a.first.points e l.invariant.5;
       times_after = all-written (time w a.segment) a.times.now l.times l.k a.first.points e l.invariant.6;

@@ -39,7 +39,7 @@ loop-i-preserved c =
     let a = c.args in
     let i = c.loop-i.i in (
       omega arith,
-      c.put_pair.auto.1.1.1.0 ∙ c.loop-i.invariant.1,
+      c.put_pair.auto.out ∙ c.loop-i.invariant.1,
       c.put_pair.ensures
           ∙ rw (c.loop-i.invariant.2, ← part_window a.src.now (a.from + i * a.step) 2 (room (goal.at.loop-i-preserved c).In-loop-i))
           (gather-step (λ k. in_order a.same (part a.src.now (a.from + k * a.step) 2)) 2 i

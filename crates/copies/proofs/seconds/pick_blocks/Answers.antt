@@ -21,7 +21,7 @@ loop-i-preserved c =
     let from_here : i * 128 * 2 ≡ i * 256 = omega arith in
     let more : i * 128 + 128 ≡ (i + 1) * 128 = omega arith in (
       omega arith,
-      c.pick_run.auto.1.1.1.0 ∙ c.loop-i.invariant.1,
+      c.pick_run.auto.out ∙ c.loop-i.invariant.1,
       c.pick_run.ensures ∙ rw c.loop-i.invariant.2 (rw (from_here, more) at (seconds_more a.src.now a.from (i * 128) 128 a.out.now a.at (omega arith) (omega arith))),
     )
 

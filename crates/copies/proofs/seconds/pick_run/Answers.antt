@@ -48,4 +48,4 @@ pub returns : goal.returns
 returns c =
     let a = c.args in
     let e : c.loop-i.i ≡ a.count = omega arith in
-    rw e at c.loop-i.invariant.2 ∙ ap (splice a.out.now a.at) (items-bytes a.src.now (a.from + 1) 2 a.count (λ k h. omega (arith, (c.requires.count_in_bounds, c.requires.count_in_bounds_2))))
+    rw e at c.loop-i.invariant.2 ∙ ap (splice a.out.now a.at) (items-bytes a.src.now (a.from + 1) 2 a.count (λ k h. omega (arith, c.requires.count_in_bounds, c.requires.count_in_bounds_2)))

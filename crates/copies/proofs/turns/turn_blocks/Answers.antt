@@ -21,7 +21,7 @@ loop-i-preserved c =
     let from_here : 16 * i * 2 ≡ i * 32 = omega arith in
     let more : 16 * i + 16 ≡ 16 * (i + 1) = omega arith in (
       omega arith,
-      c.turn_sixteen.auto.1.1.0 ∙ c.loop-i.invariant.1,
+      c.turn_sixteen.auto.out ∙ c.loop-i.invariant.1,
       c.turn_sixteen.ensures ∙ rw c.loop-i.invariant.2 (rw (from_here, more) at (items_then false a.src.now a.from 2 (16 * i) 16 a.out.now a.at (omega arith) (omega arith))),
     )
 

@@ -20,7 +20,7 @@ loop-i-preserved c =
     let a = c.args in
     let i = c.loop-i.i in (
       omega arith,
-      c.put_u64.auto.1.1.0 ∙ c.loop-i.invariant.1,
+      c.put_u64.auto.out ∙ c.loop-i.invariant.1,
       c.put_u64.ensures
           ∙ ap (λ (n : ℕ). splice c.loop-i.out (a.at + i * 8) (bytes 0 8 n)) c.u64_at-n.ensures
           ∙ rw c.loop-i.invariant.2 (turn_step a.src.now (below-index 256 a.src.now (λ j h. (c.type_inv.src j).fits)) a.from 8 i a.out.now a.at (omega arith) (omega arith)),

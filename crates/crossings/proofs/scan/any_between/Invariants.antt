@@ -16,7 +16,7 @@ use Rattle.crossings.proofs.Scans.{some_next, bits_between}
 use Rattle.crossings.proofs.scan.any_between.Given as goal
 
 abbrev pub invariant-loop-k : goal.invariant-loop-k
-invariant-loop-k l = (l.k ≤ 64) × (l.any ≡ some? (bits_between l.low l.high) (take l.k l.samples))
+invariant-loop-k l = (l.k ≤ 64) × (l.any ≡ some? (between l.low l.high) (take l.k l.samples))
 
 abbrev pub decreases-loop-k : goal.decreases-loop-k
 decreases-loop-k l = 64 - l.k

@@ -31,7 +31,7 @@ looked : (c : After-sample-z) → (let a = c.args in
 looked c =
     let a = c.args in
     let r = c.sample-z in
-    ap (bits_between (of_z w16 a.low) (of_z w16 a.high)) (sym (to_z-of_z w16 r.result (record { sfits = r.type-inv }) ∙ r.ensures))
+    ap (bits_between (of_z w16 a.low) (of_z w16 a.high)) (sym (to_z-of_z w16 r.result (record { sfits = r.type_inv }) ∙ c.sample-z.ensures))
 
 pub returns-then-low-z : goal.returns-then-low-z
 unfolding between

@@ -17,7 +17,7 @@ use Rattle.crossings.proofs.scan.first_behind.Given as goal
 
 abbrev pub invariant-loop-i : goal.invariant-loop-i
 invariant-loop-i l =
-    (l.i ≤ l.count) × ((j : ℕ) → j < l.i → bits_between l.low l.high (sample_at l.order l.size l.block l.from j) ≡ false)
+    (l.i ≤ l.count) × ((j : ℕ) → j < l.i → between l.low l.high (sample_at l.order l.size l.block l.from j) ≡ false)
 
 abbrev pub decreases-loop-i : goal.decreases-loop-i
 decreases-loop-i l = l.count - l.i

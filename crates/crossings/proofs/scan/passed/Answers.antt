@@ -67,8 +67,8 @@ loop-i-preserved c =
     let r = c.read_samples in
     let f : ℕ → ℤ = sample_at a.order a.size a.block.now a.from in (
       omega arith,
-      ap length r.ensures ∙ length_map_up f l.i 64,
-      block_next (bits_between (of_z w16 a.low) (of_z w16 a.high)) f _ l.i r.ensures l.invariant.2 (sym c.any_between.ensures ∙ c.if-any_between.false),
+      ap length c.read_samples.ensures ∙ length_map_up f l.i 64,
+      block_next (bits_between (of_z w16 a.low) (of_z w16 a.high)) f _ l.i c.read_samples.ensures l.invariant.2 (sym c.any_between.ensures ∙ c.if-any_between.false),
     )
 
 pub returns : goal.returns

@@ -9,34 +9,26 @@ use Rattle.cuts.specs.Plans.{only_if, one_in}
 use Rattle.cuts.proofs.Asking.{only_le}
 use borrow.Author.Rules.{rules}
 use Rattle.cuts.proofs.plans.plan_of.Goals as goal
-use Rattle.cuts.proofs.plans.plan_of.Goals.{After-only_if-trig, After-only_if-two, After-struct_known-2-1}
+use Rattle.cuts.proofs.plans.plan_of.Goals.{After-only_if-trig, After-only_if-two}
 
-array-small : (c : After-struct_known-2-1) → c.kept_count-count.result * (c.args.o.kind + 1) ≤ 33554432
-array-small c = omega (arith, mul-le-mul (kept c) (wide c))
-  where
-    kept : (c : After-struct_known-2-1) → c.kept_count-count.result ≤ 16777216
-    kept c = omega (arith, c.kept_count-count.ensures.1, c.requires.fp_lt_points.1)
+-- the bytes kept of a segment, and of all segments
+array_small : (n kind : ℕ) → n ≤ 16777216 → kind ≤ 1 → n * (kind + 1) ≤ 33554432
+array_small n kind k h = let w : kind + 1 ≤ 2 = omega arith in omega (arith, mul-le-mul k w)
 
-    wide : (c : After-struct_known-2-1) → c.args.o.kind + 1 ≤ 2
-    wide c = omega (arith, c.requires.fp_lt_points.2)
-
-rows-small : (c : After-struct_known-2-1) → c.one_if-rows.result ≤ 4294967295
-rows-small c = omega arith
-
-all_small : (c : After-struct_known-2-1) → c.one_if-rows.result * (c.kept_count-count.result * (c.args.o.kind + 1)) ≤ 144115188042301440
-all_small c = omega (arith, mul-le-mul (rows-small c) (array-small c))
+all_small : (rows n kind : ℕ) → rows ≤ 4294967295 → n ≤ 16777216 → kind ≤ 1 → rows * (n * (kind + 1)) ≤ 144115188042301440
+all_small rows n kind r k h = omega (arith, mul-le-mul r (array_small n kind k h))
 
 trig-small : (c : After-only_if-trig) → c.only_if-trig.result ≤ 68719476720
-trig-small c = omega (arith, c.only_if-trig.ensures, only_le (get_or c.args.o.layout.lengths 3 0) (c.one_if-rows.result * 16), rows-small c)
+trig-small c = omega (arith, c.only_if-trig.ensures, only_le (get_or c.args.o.layout.lengths 3 0) (c.one_if-rows.result * 16), c.one_if-rows.ensures)
 
 two-small : (c : After-only_if-two) → c.only_if-two.result ≤ 144115188042301440
-two-small c = omega (arith, c.only_if-two.ensures, only_le (get_or c.args.o.layout.lengths 7 0) (c.one_if-rows.result * (c.kept_count-count.result * (c.args.o.kind + 1))), all_small c)
+two-small c = omega (arith, c.only_if-two.ensures, only_le (get_or c.args.o.layout.lengths 7 0) (c.one_if-rows.result * (c.kept_count-count.result * (c.args.o.kind + 1))), all_small c.one_if-rows.result c.kept_count-count.result c.args.o.kind (omega arith) (omega (arith, c.kept_count-count.ensures.1, c.requires.fp_lt_points.1)) (omega (arith, c.requires.fp_lt_points.2)))
 
 pub overflow_mul-one : goal.overflow_mul-one
-overflow_mul-one c = omega (arith, array-small (goal.at.overflow_mul-one c).After-struct_known-2-1)
+overflow_mul-one c = omega (arith, array_small c.kept_count-count.result c.args.o.kind (omega (arith, c.kept_count-count.ensures.1, c.requires.fp_lt_points.1)) (omega (arith, c.requires.fp_lt_points.2)))
 
 pub overflow_mul-one-2 : goal.overflow_mul-one-2
-overflow_mul-one-2 c = omega (arith, all_small (goal.at.overflow_mul-one-2 c).After-struct_known-2-1)
+overflow_mul-one-2 c = omega (arith, all_small c.one_if-rows.result c.kept_count-count.result c.args.o.kind (omega arith) (omega (arith, c.kept_count-count.ensures.1, c.requires.fp_lt_points.1)) (omega (arith, c.requires.fp_lt_points.2)))
 
 pub overflow_cast-rest : goal.overflow_cast-rest
 overflow_cast-rest c = omega (arith, c.requires.lengths_bound)
@@ -54,10 +46,10 @@ pub overflow_add-result-2 : goal.overflow_add-result-2
 overflow_add-result-2 c = omega (arith, c.requires.lengths_bound, trig-small (goal.at.overflow_add-result-2 c).After-only_if-trig)
 
 pub overflow_add-result-3 : goal.overflow_add-result-3
-overflow_add-result-3 c = omega (arith, c.requires.lengths_bound, trig-small (goal.at.overflow_add-result-3 c).After-only_if-trig, all_small (goal.at.overflow_add-result-3 c).After-struct_known-2-1)
+overflow_add-result-3 c = omega (arith, c.requires.lengths_bound, trig-small (goal.at.overflow_add-result-3 c).After-only_if-trig, all_small c.one_if-rows.result c.kept_count-count.result c.args.o.kind (omega arith) (omega (arith, c.kept_count-count.ensures.1, c.requires.fp_lt_points.1)) (omega (arith, c.requires.fp_lt_points.2)))
 
 pub overflow_add-result-4 : goal.overflow_add-result-4
-overflow_add-result-4 c = omega (arith, c.requires.lengths_bound, trig-small (goal.at.overflow_add-result-4 c).After-only_if-trig, all_small (goal.at.overflow_add-result-4 c).After-struct_known-2-1, two-small (goal.at.overflow_add-result-4 c).After-only_if-two)
+overflow_add-result-4 c = omega (arith, c.requires.lengths_bound, trig-small (goal.at.overflow_add-result-4 c).After-only_if-trig, all_small c.one_if-rows.result c.kept_count-count.result c.args.o.kind (omega arith) (omega (arith, c.kept_count-count.ensures.1, c.requires.fp_lt_points.1)) (omega (arith, c.requires.fp_lt_points.2)), two-small (goal.at.overflow_add-result-4 c).After-only_if-two)
 
 pub returns : goal.returns
 returns c =

@@ -35,7 +35,7 @@ pub changes_of-changes-requires : goal.changes_of-changes-requires
 changes_of-changes-requires c =
     let n = needed (goal.at.changes_of-changes-requires c).After-shared_slice_known-1 in
     record {
-      plan_value = c.requires.0.plans;
+      plan_value = c.requires.ready.plans;
       trig_bound = n.sizes;
       fp_bound = n.places;
     }

@@ -21,7 +21,7 @@ needed c = table_needs c.args.block.now (bytes c) c.args.o (setup_as c.args.setu
 
 room : (c : Else-plan-eq0)
     → c.args.o.start + get_or c.args.o.layout.starts 3 0 + c.args.plan.skip * 16 + c.args.plan.rows * 2 * 8 ≤ length c.args.block.now
-room c = (needed c).trig_rooms c.if-plan-eq0.false
+room c = (needed (goal.at.Else-plan-eq0 c).After-shared_slice_known-1).trig_rooms c.if-plan-eq0.false
 
 pub returns-then-plan-eq0 : goal.returns-then-plan-eq0
 returns-then-plan-eq0 c =

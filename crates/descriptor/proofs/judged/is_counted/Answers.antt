@@ -17,4 +17,4 @@ overflow_mul-wide c =
 
 pub returns : goal.returns
 unfolding counted
-returns c = let a = c.args in cc (joined-all (counted (head_by a.counts a.t2)))
+returns c = let a = c.args in cc (joined-all (counted (head_by a.counts a.lengths)))

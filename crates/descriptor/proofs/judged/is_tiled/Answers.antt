@@ -13,5 +13,5 @@ use Rattle.descriptor.proofs.judged.is_tiled.Goals as goal
 pub returns : goal.returns
 returns c =
     let x = c.args in
-    let e : x.t1 ≡ window x.t1 0 10 = sym (take_all 10 x.t1 (omega arith)) ∙ part_window x.t1 0 10 (omega arith) in
-    rw (c.sum_of.ensures, c.all_long.ensures, c.all_zero.ensures) (joined-all (tiles x.size (window x.t1 0 10)) ∙ ap (λ (l : List ℕ). all (tiles x.size l)) (sym e))
+    let e : x.lengths ≡ window x.lengths 0 10 = sym (take_all 10 x.lengths (omega arith)) ∙ part_window x.lengths 0 10 (omega arith) in
+    rw (c.sum_of.ensures, c.all_long.ensures, c.all_zero.ensures) (joined-all (tiles x.size (window x.lengths 0 10)) ∙ ap (λ (l : List ℕ). all (tiles x.size l)) (sym e))

@@ -20,8 +20,8 @@ put_rest-rest-requires c =
     record {
       finite_value = search rules;
       holds = search rules;
-      done_le_count = omega (arith, b.ensures.0);
-      count_in_bounds = omega (arith, b.auto.1.1.1.1.1.1.0);
+      done_le_count = omega (arith, c.put_blocks-blocks.ensures.samples_le_count);
+      count_in_bounds = omega (arith, c.put_blocks-blocks.auto.out);
     }
 
 -- the marks of the blocks and of the rest
@@ -34,14 +34,14 @@ marked c =
     let a = c.args in
     let rest = c.put_rest-rest in
     let n : ℕ = blocks.result.samples in
-    let e : n + (a.count - n) ≡ a.count = omega (arith, blocks.ensures.0) in
-    marks_more a.size (sample_at a.order a.size a.block.now a.from) 0 n (a.count - n) n blocks.result.marks rest.result _ (omega arith) blocks.ensures.1.1 refl rest.ensures.1
+    let e : n + (a.count - n) ≡ a.count = omega (arith, c.put_blocks-blocks.ensures.samples_le_count) in
+    marks_more a.size (sample_at a.order a.size a.block.now a.from) 0 n (a.count - n) n blocks.result.marks rest.result _ (omega arith) c.put_blocks-blocks.ensures.marks_value refl c.put_rest-rest.ensures.value
     ∙ ap (mark_count_from a.order a.size a.block.now a.from 0) e
 
 pub overflow_add-result : goal.overflow_add-result
 overflow_add-result c =
     let a = c.args in
-    omega (arith, marked (goal.at.overflow_add-result c).After-struct_known-1, marks_few a.size (sample_at a.order a.size a.block.now a.from) 0 a.count, counted c.requires.holds, c.well-formed)
+    omega (arith, marked (goal.at.overflow_add-result c).After-struct_known-1, marks_few a.size (sample_at a.order a.size a.block.now a.from) 0 a.count, counted c.requires.holds, c.well_formed)
 
 pub returns : goal.returns
 unfolding bits_at mark_count_at
@@ -51,9 +51,9 @@ returns c =
     let a = c.args in
     let f : ℕ → List ℕ = λ k. bits_of (value_at a.c.gain a.c.offset a.order a.size a.block.now a.from k) in
     let each : (k : ℕ) → length (f k) ≡ 8 = λ k. length-bytes 0 8 _ in
-    let e : done + (a.count - done) ≡ a.count = omega (arith, b.ensures.0) in record {
+    let e : done + (a.count - done) ≡ a.count = omega (arith, c.put_blocks-blocks.ensures.samples_le_count) in record {
       out_after = c.put_rest-rest.ensures.out_after
-          ∙ rw e at (run_more f 8 each a.out.now _ 0 0 done (a.count - done) done (done * 8) (omega arith) (omega arith) (omega (arith, b.ensures.0)) b.ensures.1.0)
+          ∙ rw e at (run_more f 8 each a.out.now _ 0 0 done (a.count - done) done (done * 8) (omega arith) (omega arith) (omega (arith, c.put_blocks-blocks.ensures.samples_le_count)) c.put_blocks-blocks.ensures.out_after)
           ∙ over-start a.out.now (bits_from a.c.gain a.c.offset a.order a.size a.block.now a.from 0 a.count) (a.count * 8) (length_run f 8 each 0 a.count);
       value = marked (goal.at.returns c).After-struct_known-1;
     }

@@ -32,34 +32,33 @@ pub sample-z-requires : goal.sample-z-requires
 sample-z-requires c = fewer c.requires.holds _ (omega arith)
 
 pub overflow_cast-z : goal.overflow_cast-z
-overflow_cast-z c = cast_fits w16 w32 c.sample-z.result (record { sfits = c.sample-z.type-inv }) (lit≤ tt)
+overflow_cast-z c = cast_fits w16 w32 c.sample-z.result (record { sfits = c.sample-z.type_inv }) (lit≤ tt)
 
 pub put_value-requires : goal.put_value-requires
 put_value-requires c = let r = c.sample-z in record {
       finite_value = search rules;
-      sample_bound = small w16 r.result (record { sfits = r.type-inv }) (lit≤ tt);
+      sample_bound = small w16 r.result (record { sfits = r.type_inv }) (lit≤ tt);
       at_in_bounds = omega arith;
     }
 
 pub count_mark-marks-requires : goal.count_mark-marks-requires
-count_mark-marks-requires c = c.requires.1.0.narrow
+count_mark-marks-requires c = c.requires.holds.narrow
 
 -- the mark of one sample more
 one : (c : After-count_mark-marks)
-    → (let at_loop = c in
-    let a = at_loop.args in
-    let l = at_loop.loop in
+    → (let a = c.args in
+    let l = c.loop-i in
     l.marks + c.count_mark-marks.result ≡ mark_count_from a.order a.size a.block.now a.from a.done (l.i - a.done + 1))
 one c =
     let a = c.args in
     let l = c.loop-i in
     let r = c.sample-z in
-    marks-one a.size (sample_at a.order a.size a.block.now a.from) a.done (l.i - a.done) l.i l.marks c.count_mark-marks.result _ (omega (arith, l.invariant.0)) l.invariant.4 (to_z-of_z w16 r.result (record { sfits = r.type-inv }) ∙ r.ensures) c.count_mark-marks.ensures
+    marks-one a.size (sample_at a.order a.size a.block.now a.from) a.done (l.i - a.done) l.i l.marks c.count_mark-marks.result _ (omega (arith, l.invariant.0)) l.invariant.4 (to_z-of_z w16 r.result (record { sfits = r.type_inv }) ∙ c.sample-z.ensures) c.count_mark-marks.ensures
 
 pub overflow_add-marks : goal.overflow_add-marks
 overflow_add-marks c =
     let a = c.args in
-    omega (arith, one (goal.at.overflow_add-marks c).After-count_mark-marks, marks_few a.size (sample_at a.order a.size a.block.now a.from) a.done (c.loop-i.i - a.done + 1), counted c.requires.holds, c.well-formed)
+    omega (arith, one (goal.at.overflow_add-marks c).After-count_mark-marks, marks_few a.size (sample_at a.order a.size a.block.now a.from) a.done (c.loop-i.i - a.done + 1), counted c.requires.holds, c.well_formed)
 
 pub loop-i-preserved : goal.loop-i-preserved
 unfolding value_at
@@ -72,10 +71,10 @@ loop-i-preserved c =
     let e : l.i - a.done + 1 ≡ l.i + 1 - a.done = omega arith in (
       omega arith,
       omega arith,
-      put.auto.1.1.0 ∙ l.invariant.2,
-      put.ensures
+      c.put_value.auto.out ∙ l.invariant.2,
+      c.put_value.ensures
           ∙ rw e at (run-one f 8 (λ k. length-bytes 0 8 _) a.out.now l.out (a.done * 8) a.done (l.i - a.done) l.i (l.i * 8) _
-          (ap (λ (z : ℤ). bits_of (value_of a.c.gain a.c.offset z)) (cast_same w16 w32 r.result (record { sfits = r.type-inv }) (lit≤ tt) ∙ r.ensures)) (omega arith) (omega arith) (omega arith) l.invariant.3),
+          (ap (λ (z : ℤ). bits_of (value_of a.c.gain a.c.offset z)) (cast_same w16 w32 r.result (record { sfits = r.type_inv }) (lit≤ tt) ∙ c.sample-z.ensures)) (omega arith) (omega arith) (omega arith) l.invariant.3),
       rw e at (one (goal.at.loop-i-preserved c).After-count_mark-marks),
     )
 

@@ -14,8 +14,8 @@ put_wide-requires c =
     let w = c.widen in
     record {
       finite_value = search rules;
-      wide_len = ap length w.ensures.0 ∙ c.requires.samples_len;
-      by_index = w.ensures.1;
+      wide_len = ap length c.widen.ensures.wide_after ∙ c.requires.samples_len;
+      by_index = c.widen.ensures.by_index;
       at_in_bounds = omega arith;
     }
 
@@ -23,4 +23,4 @@ pub returns : goal.returns
 returns c =
     let w = c.widen in
     let a = c.args in
-    c.put_wide.ensures ∙ ap (λ (xs : List ℤ). over a.out.now a.at (flatten (map (λ z. bits_of (value_of a.c.gain a.c.offset z)) xs))) w.ensures.0
+    c.put_wide.ensures ∙ ap (λ (xs : List ℤ). over a.out.now a.at (flatten (map (λ z. bits_of (value_of a.c.gain a.c.offset z)) xs))) c.widen.ensures.wide_after

@@ -20,5 +20,5 @@ returns c =
     let v = c.value_at in
     let w = c.bits-v in
     c.put_u64.ensures
-    ∙ ap (λ (n : ℕ). over a.out.now a.at (bytes 0 8 n)) w.ensures
-    ∙ ap (λ (x : Float). over a.out.now a.at (bits_of x)) (v.ensures.0 ∙ ap (value_of a.c.gain a.c.offset) (to_z-of_z w32 a.sample c.ranges.sample))
+    ∙ ap (λ (n : ℕ). over a.out.now a.at (bytes 0 8 n)) c.bits-v.ensures
+    ∙ ap (λ (x : Float). over a.out.now a.at (bits_of x)) (c.value_at.ensures.value ∙ ap (value_of a.c.gain a.c.offset) (to_z-of_z w32 a.sample c.ranges.sample))

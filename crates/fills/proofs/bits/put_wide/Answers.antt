@@ -36,7 +36,7 @@ put_value-requires-in-loop-k c =
     record {
       finite_value = search rules;
       sample_bound = passed_small (get_or c.args.wide.now (k * 2 + 1) (pos 0)) (c.requires.by_index (k * 2 + 1) (omega arith));
-      at_in_bounds = omega (arith, put.auto.1.1.0);
+      at_in_bounds = omega (arith, c.put_value.auto.out);
     }
 
 pub loop-k-preserved : goal.loop-k-preserved
@@ -52,10 +52,10 @@ loop-k-preserved c =
     let each : (k : ℕ) → length (f k) ≡ 8 = λ k. length-bytes 0 8 _ in
     let j : ℕ = l.k * 2 in
     let e : j + 1 + 1 ≡ (l.k + 1) * 2 = omega arith in
-    let one = put.ensures ∙ run-one f 8 each a.out.now l.out a.at 0 j j (a.at + j * 8) _ (same j (omega (arith, turn))) (omega arith) refl (omega arith) l.invariant.2 in (
+    let one = c.put_value.ensures ∙ run-one f 8 each a.out.now l.out a.at 0 j j (a.at + j * 8) _ (same j (omega (arith, turn))) (omega arith) refl (omega arith) l.invariant.2 in (
       omega arith,
-      put2.auto.1.1.0 ∙ put.auto.1.1.0 ∙ l.invariant.1,
-      put2.ensures ∙ rw e at (run-one f 8 each a.out.now _ a.at 0 (j + 1) (j + 1) (a.at + (j + 1) * 8) _ (same (j + 1) (omega (arith, turn))) (omega arith) refl (omega arith) one),
+      c.put_value-in-loop-k.auto.out ∙ c.put_value.auto.out ∙ l.invariant.1,
+      c.put_value-in-loop-k.ensures ∙ rw e at (run-one f 8 each a.out.now _ a.at 0 (j + 1) (j + 1) (a.at + (j + 1) * 8) _ (same (j + 1) (omega (arith, turn))) (omega arith) refl (omega arith) one),
     )
 
 pub shape_of-out : goal.shape_of-out

@@ -26,7 +26,7 @@ loop-k-preserved c =
     let l = c.loop-k in
     let z : ℤ = get_or a.samples.now l.k (pos 0) in
     let e = c.at_rail in
-    let r : e.result ≡ at_rail a.size z = e.ensures ∙ ap (at_rail a.size) (to_z-of_z w16 z (record { sfits = c.at_rail-arg-1.given })) in (
+    let r : e.result ≡ at_rail a.size z = c.at_rail.ensures ∙ ap (at_rail a.size) (to_z-of_z w16 z (record { sfits = c.at_rail-arg-1.given })) in (
       omega arith,
       omega (arith, c.mark_number-n.ensures, mark_le e.result, l.invariant.1),
       ap₂ {C = ℕ} (λ x y. x + y) l.invariant.2 (c.mark_number-n.ensures ∙ ap mark_number r) ∙ marks_next a.size a.samples.now l.k (omega (arith, c.requires.samples_len)),

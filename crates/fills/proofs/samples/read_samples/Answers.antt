@@ -29,7 +29,7 @@ loop-k-preserved c =
     let l = c.loop-k in
     let f : ℕ → ℤ = sample_at a.order a.size a.block.now a.from in
     let r = c.sample in
-    (omega arith, map-one f a.samples.now l.samples 0 a.first l.k (a.first + l.k) l.k _ (to_z-of_z w16 r.result (record { sfits = r.type-inv }) ∙ r.ensures) refl (omega arith) (omega arith) l.invariant.1)
+    (omega arith, map-one f a.samples.now l.samples 0 a.first l.k (a.first + l.k) l.k _ (to_z-of_z w16 r.result (record { sfits = r.type_inv }) ∙ c.sample.ensures) refl (omega arith) (omega arith) l.invariant.1)
 
 pub returns : goal.returns
 returns c =

@@ -21,7 +21,7 @@ pub u8_at-b-requires : goal.u8_at-b-requires
 u8_at-b-requires c = omega (arith, counted c.requires)
 
 pub overflow_cast-result : goal.overflow_cast-result
-overflow_cast-result c = cast_fits w8 w16 c.signed8.result (record { sfits = c.signed8.type-inv }) (lit≤ tt)
+overflow_cast-result c = cast_fits w8 w16 c.signed8.result (record { sfits = c.signed8.type_inv }) (lit≤ tt)
 
 pub returns-then-size-eq1 : goal.returns-then-size-eq1
 returns-then-size-eq1 c =
@@ -29,9 +29,9 @@ returns-then-size-eq1 c =
     let n = c.u8_at-b in
     let s = a.block.now in
     let e : a.k ≡ a.k * 1 = omega arith in
-    cast_same w8 w16 c.signed8.result (record { sfits = c.signed8.type-inv }) (lit≤ tt)
+    cast_same w8 w16 c.signed8.result (record { sfits = c.signed8.type_inv }) (lit≤ tt)
     ∙ c.signed8.ensures
-    ∙ ap (λ (m : ℕ). signed 1 m) (n.ensures a.order)
+    ∙ ap (λ (m : ℕ). signed 1 m) (c.u8_at-b.ensures a.order)
     ∙ ap (λ (m : ℕ). signed 1 (number a.order (take 1 (drop (a.from + m) s)))) e
     ∙ ap {B = ℤ} (λ (w : ℕ). sample_at a.order w s a.from a.k) (sym c.if-size-eq1.true)
 
@@ -49,7 +49,7 @@ returns c =
     let a = c.args in
     let n = c.word_at-w in
     let w = words c.requires c.if-size-eq1.false in
-    to_z-of_z w16 c.signed16.result (record { sfits = c.signed16.type-inv })
+    to_z-of_z w16 c.signed16.result (record { sfits = c.signed16.type_inv })
     ∙ c.signed16.ensures
-    ∙ ap (λ (m : ℕ). signed 2 m) n.ensures
+    ∙ ap (λ (m : ℕ). signed 2 m) c.word_at-w.ensures
     ∙ ap {B = ℤ} (λ (w : ℕ). sample_at a.order w a.block.now a.from a.k) (sym w.0)

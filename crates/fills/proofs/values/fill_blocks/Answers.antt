@@ -34,7 +34,7 @@ scale_samples-requires c =
     let r = c.read_samples in
     record {
       finite_value = search rules;
-      samples_len = ap length r.ensures ∙ length_map_up f _ 64;
+      samples_len = ap length c.read_samples.ensures ∙ length_map_up f _ 64;
       at_in_bounds = omega arith;
     }
 
@@ -43,26 +43,25 @@ count_marks-marks-requires c =
     let a = c.args in
     let f : ℕ → ℤ = sample_at a.order a.size a.block.now a.from in
     record {
-      le_size = c.requires.1.0.narrow;
+      le_size = c.requires.holds.narrow;
       samples_len = ap length c.read_samples.ensures ∙ length_map_up f _ 64;
     }
 
 -- the marks of sixty-four samples more
 sixty_four : (c : After-count_marks-marks)
-    → (let at_loop = c in
-    let a = at_loop.args in
-    let l = at_loop.loop in
+    → (let a = c.args in
+    let l = c.loop-i in
     l.marks + c.count_marks-marks.result ≡ mark_count_from a.order a.size a.block.now a.from 0 (l.i + 64))
 sixty_four c =
     let a = c.args in
     let l = c.loop-i in
     let r = c.read_samples in
-    marks_more a.size (sample_at a.order a.size a.block.now a.from) 0 l.i 64 l.i l.marks c.count_marks-marks.result _ (omega arith) l.invariant.4 r.ensures c.count_marks-marks.ensures
+    marks_more a.size (sample_at a.order a.size a.block.now a.from) 0 l.i 64 l.i l.marks c.count_marks-marks.result _ (omega arith) l.invariant.4 c.read_samples.ensures c.count_marks-marks.ensures
 
 pub overflow_add-marks : goal.overflow_add-marks
 overflow_add-marks c =
     let a = c.args in
-    omega (arith, sixty_four (goal.at.overflow_add-marks c).After-count_marks-marks, marks_few a.size (sample_at a.order a.size a.block.now a.from) 0 (c.loop-i.i + 64), counted c.requires.holds, c.well-formed)
+    omega (arith, sixty_four (goal.at.overflow_add-marks c).After-count_marks-marks, marks_few a.size (sample_at a.order a.size a.block.now a.from) 0 (c.loop-i.i + 64), counted c.requires.holds, c.well_formed)
 
 pub loop-i-preserved : goal.loop-i-preserved
 unfolding value_at
@@ -74,10 +73,10 @@ loop-i-preserved c =
     let f : ℕ → ℤ = sample_at a.order a.size a.block.now a.from in
     let v : ℕ → Float = value_at a.c.gain a.c.offset a.order a.size a.block.now a.from in (
       omega arith,
-      ap length r.ensures ∙ length_map_up f _ 64,
-      s.auto.1.1.0 ∙ l.invariant.2,
-      s.ensures
-          ∙ ap (over l.out l.i) (ap (map (value_of a.c.gain a.c.offset)) r.ensures ∙ map-map (value_of a.c.gain a.c.offset) f (up_from l.i 64))
+      ap length c.read_samples.ensures ∙ length_map_up f _ 64,
+      c.scale_samples.auto.out ∙ l.invariant.2,
+      c.scale_samples.ensures
+          ∙ ap (over l.out l.i) (ap (map (value_of a.c.gain a.c.offset)) c.read_samples.ensures ∙ map-map (value_of a.c.gain a.c.offset) f (up_from l.i 64))
           ∙ map_more v a.out.now l.out 0 0 l.i 64 l.i l.i (omega arith) (omega arith) (omega arith) l.invariant.3,
       sixty_four (goal.at.loop-i-preserved c).After-count_marks-marks,
     )

@@ -28,7 +28,7 @@ pub sample-z-requires : goal.sample-z-requires
 sample-z-requires c = fewer c.requires.holds _ (omega arith)
 
 pub count_mark-marks-requires : goal.count_mark-marks-requires
-count_mark-marks-requires c = c.requires.1.0.narrow
+count_mark-marks-requires c = c.requires.holds.narrow
 
 -- the mark of one sample more
 one : (c : After-count_mark-marks)
@@ -39,13 +39,13 @@ one c =
     let a = c.args in
     let l = c.loop-i in
     let r = c.sample-z in
-    marks-one a.size (sample_at a.order a.size a.block.now a.from) a.done (l.i - a.done) l.i l.marks c.count_mark-marks.result _ (omega (arith, l.invariant.0)) l.invariant.4 (to_z-of_z w16 r.result (record { sfits = r.type-inv }) ∙ r.ensures) c.count_mark-marks.ensures
+    marks-one a.size (sample_at a.order a.size a.block.now a.from) a.done (l.i - a.done) l.i l.marks c.count_mark-marks.result _ (omega (arith, l.invariant.0)) l.invariant.4 (to_z-of_z w16 r.result (record { sfits = r.type_inv }) ∙ c.sample-z.ensures) c.count_mark-marks.ensures
 
 pub overflow_add-marks : goal.overflow_add-marks
 overflow_add-marks c =
     let l = c.loop-i in
     let a = c.args in
-    omega (arith, one (goal.at.overflow_add-marks c).After-count_mark-marks, marks_few a.size (sample_at a.order a.size a.block.now a.from) a.done (l.i - a.done + 1), counted c.requires.holds, c.well-formed)
+    omega (arith, one (goal.at.overflow_add-marks c).After-count_mark-marks, marks_few a.size (sample_at a.order a.size a.block.now a.from) a.done (l.i - a.done + 1), counted c.requires.holds, c.well_formed)
 
 pub loop-i-preserved : goal.loop-i-preserved
 unfolding value_at
@@ -55,7 +55,7 @@ loop-i-preserved c =
     let r = c.sample-z in
     let u = c.value in
     let f : ℕ → Float = value_at a.c.gain a.c.offset a.order a.size a.block.now a.from in
-    let v : u.result ≡ f l.i = u.ensures.0 ∙ ap (value_of a.c.gain a.c.offset) (to_z-of_z w16 r.result (record { sfits = r.type-inv }) ∙ r.ensures) in
+    let v : u.result ≡ f l.i = c.value.ensures.value ∙ ap (value_of a.c.gain a.c.offset) (to_z-of_z w16 r.result (record { sfits = r.type_inv }) ∙ c.sample-z.ensures) in
     let e : l.i - a.done + 1 ≡ l.i + 1 - a.done = omega arith in (
       omega arith,
       omega arith,

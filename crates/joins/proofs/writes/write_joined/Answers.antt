@@ -17,7 +17,7 @@ bytes : (c : After-shared_slice_known-1) → Bytes c.args.parts.now
 bytes c = below-index 256 c.args.parts.now (λ i h. (c.type_inv.parts i).fits)
 
 pub slice_bounds-write_front-end : goal.slice_bounds-write_front-end
-slice_bounds-write_front-end c = omega (arith, c.requires.0.gathered.ends, first-within c.args.parts.now)
+slice_bounds-write_front-end c = omega (arith, c.requires.ready.gathered.ends, first-within c.args.parts.now)
 
 pub overflow_cast-count : goal.overflow_cast-count
 overflow_cast-count c =
@@ -36,7 +36,7 @@ pub write_tables-requires : goal.write_tables-requires
 write_tables-requires c =
     let a = c.args in
     record {
-      gathered = c.requires.0.gathered;
+      gathered = c.requires.ready.gathered;
       parts_in_bounds = omega (arith, sum a.parts.now (bytes (goal.at.write_tables-requires c).After-shared_slice_known-1) a.lead a.count a.end a.total c.requires.ready, c.requires.total_in_bounds, c.write_front.auto);
     }
 

@@ -22,14 +22,14 @@ room : (c : In-loop-k) → let a = c.args in let l = c.loop-k in l.to + a.count 
 room c =
     let a = c.args in
     let l = c.loop-k in
-    omega (arith, l.invariant.2, table-room a.parts.now (bytes c) a.lead a.count a.end c.requires.gathered l.k (omega (arith, c.loop-k-test.true)), c.requires.parts_in_bounds)
+    omega (arith, l.invariant.2, table-room a.parts.now (bytes (goal.at.In-loop-k c).After-shared_slice_known-1) a.lead a.count a.end c.requires.gathered l.k (omega (arith, c.loop-k-test.true)), c.requires.parts_in_bounds)
 
 -- and it stands in each payload
 row : (c : In-loop-k) → let a = c.args in let l = c.loop-k in l.from + get_or a.lead.lengths (3 + l.k) 0 ≤ a.end - a.lead.start
 row c =
     let a = c.args in
     let l = c.loop-k in
-    omega (arith, l.invariant.1, row_ends a.parts.now (bytes c) a.lead a.count a.end c.requires.gathered (3 + l.k) (omega (arith, c.loop-k-test.true)))
+    omega (arith, l.invariant.1, row_ends a.parts.now (bytes (goal.at.In-loop-k c).After-shared_slice_known-1) a.lead a.count a.end c.requires.gathered (3 + l.k) (omega (arith, c.loop-k-test.true)))
 
 pub overflow_sub-long : goal.overflow_sub-long
 overflow_sub-long c =
@@ -40,7 +40,7 @@ overflow_sub-long c =
 inside : (c : After-lengths-1) → let a = c.args in get_or a.lead.lengths 0 0 + get_or a.lead.lengths 1 0 + get_or a.lead.lengths 2 0 ≤ a.end
 inside c =
     let a = c.args in
-    omega (arith, first-start a.parts.now (bytes c) a.lead a.count a.end c.requires.gathered, row_ends a.parts.now (bytes c) a.lead a.count a.end c.requires.gathered 3 (omega arith))
+    omega (arith, first-start a.parts.now (bytes (goal.at.After-lengths-1 c).After-shared_slice_known-1) a.lead a.count a.end c.requires.gathered, row_ends a.parts.now (bytes (goal.at.After-lengths-1 c).After-shared_slice_known-1) a.lead a.count a.end c.requires.gathered 3 (omega arith))
 
 pub overflow_add-from : goal.overflow_add-from
 overflow_add-from c = omega (arith, inside (goal.at.overflow_add-from c).After-lengths-1, c.ranges)
@@ -58,13 +58,13 @@ write_table-requires c =
     let a = c.args in
     record {
       placeable = can_place a.parts.now (bytes (goal.at.write_table-requires c).After-shared_slice_known-1) a.lead a.count a.end c.requires.gathered;
-      size_bound = (row (goal.at.write_table-requires c).In-loop-k, c.requires.0.count);
+      size_bound = (row (goal.at.write_table-requires c).In-loop-k, c.requires.gathered.count);
       size_in_bounds = omega (arith, room (goal.at.write_table-requires c).In-loop-k, c.loop-k.invariant.4);
     }
 
 pub overflow_add-from-in-loop-k : goal.overflow_add-from-in-loop-k
 overflow_add-from-in-loop-k c =
-    omega (arith, row (goal.at.overflow_add-from-in-loop-k c).In-loop-k, c.requires.0.ends, first-within c.args.parts.now)
+    omega (arith, row (goal.at.overflow_add-from-in-loop-k c).In-loop-k, c.requires.gathered.ends, first-within c.args.parts.now)
 
 pub overflow_mul-to : goal.overflow_mul-to
 overflow_mul-to c = omega (arith, room (goal.at.overflow_mul-to c).In-loop-k)
@@ -83,8 +83,8 @@ loop-k-preserved c =
       omega (arith, c.loop-k-test.true),
       ap (λ (m : ℕ). m + get_or a.lead.lengths (3 + l.k) 0) l.invariant.1 ∙ next_start a.parts.now (bytes (goal.at.loop-k-preserved c).After-shared_slice_known-1) a.lead a.count a.end c.requires.gathered l.k (omega (arith, c.loop-k-test.true)),
       omega (arith, l.invariant.2, n.0),
-      w.ensures ∙ ap (splice l.out l.to) rows ∙ ap₂ {C = List ℕ} (λ u m. splice u m (table_of (3 + l.k) a.parts.now)) l.invariant.3 l.invariant.2 ∙ n.1 a.out.now a.at (omega (arith, room (goal.at.loop-k-preserved c).In-loop-k, l.invariant.2)),
-      w.auto.1.1.1.1.1.1.0 ∙ l.invariant.4,
+      c.write_table.ensures ∙ ap (splice l.out l.to) rows ∙ ap₂ {C = List ℕ} (λ u m. splice u m (table_of (3 + l.k) a.parts.now)) l.invariant.3 l.invariant.2 ∙ n.1 a.out.now a.at (omega (arith, room (goal.at.loop-k-preserved c).In-loop-k, l.invariant.2)),
+      c.write_table.auto.out ∙ l.invariant.4,
     )
 
 pub shape_of-out : goal.shape_of-out

@@ -45,7 +45,7 @@ loop-here-preserved c =
     let s = c.args.block.now in
     let w = c.put_line-at.ensures.wrote in
     let bs : List ℕ = point_line (opened s) l.here.segment l.here.place.k in
-    let k = c.put_line-at.auto.1.1.0 in (
+    let k = c.put_line-at.auto.out in (
       k ∙ l.invariant.0,
       l.invariant.1,
       omega (arith, k, c.put_line-at.ensures.lower_bound.1, leb-true l.at _ c.if-at-last.true-raw, l.invariant.0, l.invariant.1),

@@ -26,18 +26,18 @@ needed c = word_needs c.args.block.now (below-index 256 c.args.block.now (λ i h
 abbrev old : After-shared_slice_known-1 → ℕ
 old c = gain (opened c.args.block.now).head
 
-bits_are : (c : After-bits-gain) → c.bits-gain.result ≡ old c
-bits_are c = c.bits-gain.ensures ∙ (needed c).bits
+bits_are : (c : After-bits-gain) → c.bits-gain.result ≡ old (goal.at.After-bits-gain c).After-shared_slice_known-1
+bits_are c = c.bits-gain.ensures ∙ (needed (goal.at.After-bits-gain c).After-shared_slice_known-1).bits
 
 gain-good : (c : After-bits-gain) → finite32 c.bits-gain.result ≡ true
-gain-good c = ap finite32 (bits_are c) ∙ (needed c).good
+gain-good c = ap finite32 (bits_are c) ∙ (needed (goal.at.After-bits-gain c).After-shared_slice_known-1).good
 
 -- what the bits are tested for
-test : (c : After-is_narrow) → c.is_narrow.result ≡ finite (widened (old c))
-test c = c.is_narrow.ensures ∙ ap (λ (n : ℕ). finite (widened n)) (bits_are c)
+test : (c : After-is_narrow) → c.is_narrow.result ≡ finite (widened (old (goal.at.After-is_narrow c).After-shared_slice_known-1))
+test c = c.is_narrow.ensures ∙ ap (λ (n : ℕ). finite (widened n)) (bits_are (goal.at.After-is_narrow c).After-bits-gain)
 
-finite-bits : (c : After-is_narrow) → finite (widened (old c)) ≡ true → finite (widened c.bits-gain.result) ≡ true
-finite-bits c e = ap (λ (n : ℕ). finite (widened n)) (bits_are c) ∙ e
+finite-bits : (c : After-is_narrow) → finite (widened (old (goal.at.After-is_narrow c).After-shared_slice_known-1)) ≡ true → finite (widened c.bits-gain.result) ≡ true
+finite-bits c e = ap (λ (n : ℕ). finite (widened n)) (bits_are (goal.at.After-is_narrow c).After-bits-gain) ∙ e
 
 pub bits-gain-requires : goal.bits-gain-requires
 bits-gain-requires c = (needed (goal.at.bits-gain-requires c).After-shared_slice_known-1).real

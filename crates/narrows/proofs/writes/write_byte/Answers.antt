@@ -14,4 +14,4 @@ returns c =
     let a = c.args in
     c.copy_bytes.ensures
     ∙ ap (λ (l : List ℕ). splice l 11 (part a.block.now a.start a.total)) c.put_header.ensures
-    ∙ byte_stored a.block.now a.out.now a.start a.total (omega (arith, (c.requires.total_in_bounds, c.requires.total_in_bounds_2)))
+    ∙ byte_stored a.block.now a.out.now a.start a.total (omega (arith, c.requires.total_in_bounds, c.requires.total_in_bounds_2))

@@ -20,4 +20,4 @@ returns c =
     c.pick_seconds.ensures
     ∙ ap (λ (l : List ℕ). splice l (11 + a.front) samples) (c.put_fields.ensures ∙ ap (fields_put a.order a.one a.two a.gain) (c.copy_bytes.ensures ∙ ap (λ (l : List ℕ). splice l 11 (part s a.start a.front)) c.put_header.ensures))
     ∙ word_stored s (below-index 256 s (λ i h. (c.type_inv.block i).fits)) a.start a.order a.one a.two a.gain a.out.now a.front (a.start + a.front + a.order - 1)
-    c.requires.order_bound.1 (omega (arith, (c.requires.order_bound, (c.requires.two_in_bounds, c.requires.two_in_bounds_2)))) c.requires.two_in_bounds_2 (omega (arith, (c.requires.order_bound, (c.requires.two_in_bounds, c.requires.two_in_bounds_2))))
+    c.requires.order_bound.1 (omega (arith, c.requires.order_bound, c.requires.two_in_bounds, c.requires.two_in_bounds_2)) c.requires.two_in_bounds_2 (omega (arith, c.requires.order_bound, c.requires.two_in_bounds, c.requires.two_in_bounds_2))

@@ -14,7 +14,7 @@ unfolding value_at mark_at
 returns c =
     let a = c.args in
     let r = c.sample-sample in
-    let z : to_z w16 (of_z w16 r.result) ≡ sample_at a.order (a.kind + 1) a.block.now a.from a.k = to_z-of_z w16 r.result (record { sfits = r.type-inv }) ∙ r.ensures in
+    let z : to_z w16 (of_z w16 r.result) ≡ sample_at a.order (a.kind + 1) a.block.now a.from a.k = to_z-of_z w16 r.result (record { sfits = r.type_inv }) ∙ c.sample-sample.ensures in
     record {
       value_value = c.value-value.ensures.value ∙ ap (value_of a.c.gain a.c.offset) z;
       mark_value = c.at_rail-mark.ensures ∙ ap (at_rail (a.kind + 1)) z;

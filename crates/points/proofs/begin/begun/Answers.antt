@@ -21,4 +21,4 @@ returns c =
     let a = c.args in
     let f = c.samples_from-samples in
     let r = c.segment_rule-rule in
-    begun_is a.block.now (bytes (goal.at.returns c).After-shared_slice_known-1) a.o a.array a.segment c.requires f.result r.result f.ensures r.ensures
+    begun_is a.block.now (bytes (goal.at.returns c).After-shared_slice_known-1) a.o a.array a.segment c.requires f.result r.result c.samples_from-samples.ensures c.segment_rule-rule.ensures

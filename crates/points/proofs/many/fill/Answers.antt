@@ -16,9 +16,9 @@ bytes c = below-index 256 c.args.block.now (λ i h. (c.type_inv.block i).fits)
 
 pub returns-then-o-ne0 : goal.returns-then-o-ne0
 returns-then-o-ne0 c =
-    let o = c.«open» in
+    let o = c.open-o in
     let a = c.args in
-    let q = fill_refused a.block.now a.array a.segment o.result.refusal a.out.now (fill_block a.block.now o.result o.ensures a.array a.segment (length a.out.now) c.if-o-ne0.true) c.if-o-ne0.true in
+    let q = fill_refused a.block.now a.array a.segment o.result.refusal a.out.now (fill_block a.block.now o.result c.open-o.ensures a.array a.segment (length a.out.now) c.if-o-ne0.true) c.if-o-ne0.true in
     record {
       value = c.unfilled.ensures ∙ q.0;
       out_after = q.1;
@@ -26,11 +26,11 @@ returns-then-o-ne0 c =
 
 pub returns-then-number-ne0 : goal.returns-then-number-ne0
 returns-then-number-ne0 c =
-    let o = c.«open» in
+    let o = c.open-o in
     let a = c.args in
     let h = c.chosen-number in
     let q =
-    fill_refused a.block.now a.array a.segment h.result a.out.now (fill_segment a.block.now o.result o.ensures a.array a.segment (length a.out.now) c.if-o-ne0.false h.result h.ensures c.if-number-ne0.true) c.if-number-ne0.true in
+    fill_refused a.block.now a.array a.segment h.result a.out.now (fill_segment a.block.now o.result c.open-o.ensures a.array a.segment (length a.out.now) c.if-o-ne0.false h.result c.chosen-number.ensures c.if-number-ne0.true) c.if-number-ne0.true in
     record {
       value = c.unfilled-then-number-ne0.ensures ∙ q.0;
       out_after = q.1;
@@ -38,11 +38,11 @@ returns-then-number-ne0 c =
 
 pub returns-then-out-o : goal.returns-then-out-o
 returns-then-out-o c =
-    let o = c.«open» in
+    let o = c.open-o in
     let a = c.args in
     let h = c.chosen-number in
     let q =
-    fill_refused a.block.now a.array a.segment 13 a.out.now (fill_last a.block.now o.result o.ensures a.array a.segment (length a.out.now) c.if-o-ne0.false h.result h.ensures c.if-number-ne0.false c.if-out-o.true) (λ e. omega arith) in
+    fill_refused a.block.now a.array a.segment 13 a.out.now (fill_last a.block.now o.result c.open-o.ensures a.array a.segment (length a.out.now) c.if-o-ne0.false h.result c.chosen-number.ensures c.if-number-ne0.false c.if-out-o.true) (λ e. omega arith) in
     record {
       value = c.unfilled-then-out-o.ensures ∙ q.0;
       out_after = q.1;
@@ -50,26 +50,26 @@ returns-then-out-o c =
 
 pub put-marks-requires : goal.put-marks-requires
 put-marks-requires c =
-    let o = c.«open» in
+    let o = c.open-o in
     let a = c.args in
     let h = c.chosen-number in
     let z = c.if-o-ne0.false in record {
       lent = record {
-        opens = o.ensures;
-        answers = point_none a.block.now o.result o.ensures a.array a.segment 0 z h.result h.ensures c.if-number-ne0.false (some-points a.block.now (bytes (goal.at.put-marks-requires c).After-shared_slice_known-1) o.result o.ensures z);
+        opens = c.open-o.ensures;
+        answers = point_none a.block.now o.result c.open-o.ensures a.array a.segment 0 z h.result c.chosen-number.ensures c.if-number-ne0.false (some-points a.block.now (bytes (goal.at.put-marks-requires c).After-shared_slice_known-1) o.result c.open-o.ensures z);
       };
       points_in_bounds = c.if-out-o.false;
     }
 
 pub returns : goal.returns
 returns c =
-    let o = c.«open» in
+    let o = c.open-o in
     let a = c.args in
     let h = c.chosen-number in
     let z = c.if-o-ne0.false in
     let q =
-    fill_is a.block.now a.array a.segment o.result.points c.put-marks.result a.out.now (points_are a.block.now o.result o.ensures z) c.put-marks.ensures.value
-    (fill_none a.block.now o.result o.ensures a.array a.segment (length a.out.now) z h.result h.ensures c.if-number-ne0.false c.if-out-o.false) in
+    fill_is a.block.now a.array a.segment o.result.points c.put-marks.result a.out.now (points_are a.block.now o.result c.open-o.ensures z) c.put-marks.ensures.value
+    (fill_none a.block.now o.result c.open-o.ensures a.array a.segment (length a.out.now) z h.result c.chosen-number.ensures c.if-number-ne0.false c.if-out-o.false) in
     record {
       value = q.0;
       out_after = c.put-marks.ensures.out_after ∙ q.1;

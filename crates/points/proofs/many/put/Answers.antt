@@ -28,23 +28,23 @@ fill_bytes-requires c =
     let v = value-finite a.block.now (bytes (goal.at.fill_bytes-requires c).After-shared_slice_known-1) a.o a.array a.segment 0 p in
     record {
       finite_value = v;
-      count_in_bounds = omega (arith, put_room a.block.now (bytes (goal.at.fill_bytes-requires c).After-shared_slice_known-1) a.o a.array a.segment p 1 f.result e f.ensures);
+      count_in_bounds = omega (arith, put_room a.block.now (bytes (goal.at.fill_bytes-requires c).After-shared_slice_known-1) a.o a.array a.segment p 1 f.result e c.samples_from-from.ensures);
       count_in_bounds_2 = omega (arith, c.requires.points_in_bounds);
     }
 
 -- the marks of its bytes
-byte_marks : (c : After-slice_known-then-o-eq0-1) → (let a = c.args in c.fill_bytes_lem.result ≡ mark_count (opened a.block.now) a.array a.segment)
+byte_marks : (c : After-slice_known-then-o-eq0-1) → (let a = c.args in c.fill_bytes.result ≡ mark_count (opened a.block.now) a.array a.segment)
 byte_marks c =
     let a = c.args in
     let p = c.requires.lent in
     let f = c.samples_from-from in
-    let e : a.o.kind + 1 ≡ 1 = omega (arith, kind_small a.block.now (bytes c) a.o a.array a.segment 0 p) in
-    c.fill_bytes_lem.ensures.1 a.o.order ∙ put_marks a.block.now (bytes c) a.o a.array a.segment p 1 f.result e f.ensures
+    let e : a.o.kind + 1 ≡ 1 = omega (arith, kind_small a.block.now (bytes (goal.at.After-slice_known-then-o-eq0-1 c).After-shared_slice_known-1) a.o a.array a.segment 0 p) in
+    c.fill_bytes.ensures.by_index_2 a.o.order ∙ put_marks a.block.now (bytes (goal.at.After-slice_known-then-o-eq0-1 c).After-shared_slice_known-1) a.o a.array a.segment p 1 f.result e c.samples_from-from.ensures
 
 pub overflow_cast-result : goal.overflow_cast-result
 overflow_cast-result c =
     let a = c.args in
-    omega (arith, marks-small a.block.now (bytes (goal.at.overflow_cast-result c).After-shared_slice_known-1) a.o a.array a.segment c.requires.lent c.fill_bytes_lem.result (byte_marks (goal.at.overflow_cast-result c).After-slice_known-then-o-eq0-1))
+    omega (arith, marks-small a.block.now (bytes (goal.at.overflow_cast-result c).After-shared_slice_known-1) a.o a.array a.segment c.requires.lent c.fill_bytes.result (byte_marks (goal.at.overflow_cast-result c).After-slice_known-then-o-eq0-1))
 
 pub returns-then-o-eq0 : goal.returns-then-o-eq0
 returns-then-o-eq0 c =
@@ -53,7 +53,7 @@ returns-then-o-eq0 c =
     let f = c.samples_from-from in
     let e : a.o.kind + 1 ≡ 1 = omega (arith, kind_small a.block.now (bytes (goal.at.returns-then-o-eq0 c).After-shared_slice_known-1) a.o a.array a.segment 0 p) in
     record {
-      out_after = c.fill_bytes_lem.ensures.0 a.o.order ∙ put_is a.block.now (bytes (goal.at.returns-then-o-eq0 c).After-shared_slice_known-1) a.o a.array a.segment p 1 f.result e f.ensures a.out.now;
+      out_after = c.fill_bytes.ensures.by_index a.o.order ∙ put_is a.block.now (bytes (goal.at.returns-then-o-eq0 c).After-shared_slice_known-1) a.o a.array a.segment p 1 f.result e c.samples_from-from.ensures a.out.now;
       value = byte_marks (goal.at.returns-then-o-eq0 c).After-slice_known-then-o-eq0-1;
     }
 
@@ -66,7 +66,7 @@ fill_words-requires c =
     let v = value-finite a.block.now (bytes (goal.at.fill_words-requires c).After-shared_slice_known-1) a.o a.array a.segment 0 p in
     record {
       finite_value = v;
-      count_in_bounds = omega (arith, put_room a.block.now (bytes (goal.at.fill_words-requires c).After-shared_slice_known-1) a.o a.array a.segment p 2 f.result e f.ensures);
+      count_in_bounds = omega (arith, put_room a.block.now (bytes (goal.at.fill_words-requires c).After-shared_slice_known-1) a.o a.array a.segment p 2 f.result e c.samples_from-from.ensures);
       count_in_bounds_2 = omega (arith, c.requires.points_in_bounds);
     }
 
@@ -76,8 +76,8 @@ word-marks c =
     let a = c.args in
     let p = c.requires.lent in
     let f = c.samples_from-from in
-    let e : a.o.kind + 1 ≡ 2 = omega (arith, kind_small a.block.now (bytes c) a.o a.array a.segment 0 p) in
-    c.fill_words.ensures.value ∙ put_marks a.block.now (bytes c) a.o a.array a.segment p 2 f.result e f.ensures
+    let e : a.o.kind + 1 ≡ 2 = omega (arith, kind_small a.block.now (bytes (goal.at.After-slice_known-2-1 c).After-shared_slice_known-1) a.o a.array a.segment 0 p) in
+    c.fill_words.ensures.value ∙ put_marks a.block.now (bytes (goal.at.After-slice_known-2-1 c).After-shared_slice_known-1) a.o a.array a.segment p 2 f.result e c.samples_from-from.ensures
 
 pub overflow_cast-result-2 : goal.overflow_cast-result-2
 overflow_cast-result-2 c =
@@ -91,6 +91,6 @@ returns c =
     let f = c.samples_from-from in
     let e : a.o.kind + 1 ≡ 2 = omega (arith, kind_small a.block.now (bytes (goal.at.returns c).After-shared_slice_known-1) a.o a.array a.segment 0 p) in
     record {
-      out_after = c.fill_words.ensures.out_after ∙ put_is a.block.now (bytes (goal.at.returns c).After-shared_slice_known-1) a.o a.array a.segment p 2 f.result e f.ensures a.out.now;
+      out_after = c.fill_words.ensures.out_after ∙ put_is a.block.now (bytes (goal.at.returns c).After-shared_slice_known-1) a.o a.array a.segment p 2 f.result e c.samples_from-from.ensures a.out.now;
       value = word-marks (goal.at.returns c).After-slice_known-2-1;
     }

@@ -52,15 +52,15 @@ segment_rule-segment_rule-requires c =
     timed a.block.now (bytes (goal.at.segment_rule-segment_rule-requires c).After-shared_slice_known-1) a.o a.array a.segment a.k c.requires
 
 -- the rule that is made is document 01's
-ruled : (c : After-rule_at-rule) → let a = c.args in rule_as c.rule_at_lem.result ≡ rule_of (opened a.block.now) a.segment (place_by a.o a.k)
+ruled : (c : After-rule_at-rule) → let a = c.args in rule_as c.rule_at-rule.result ≡ rule_of (opened a.block.now) a.segment (place_by a.o a.k)
 ruled c =
     let a = c.args in
     let p = c.requires in
     let i : ℕ = place_by a.o a.k in
-    c.rule_at_lem.ensures
+    c.rule_at-rule.ensures
     ∙ ap (λ (r : SegmentRule). rule_at a.block.now a.o.order r i) c.segment_rule-segment_rule.ensures
-    ∙ ap (λ (x : Opened). rule_at a.block.now x.order (segment_rule a.block.now a.segment) i) (is a.block.now (bytes c) a.o a.array a.segment a.k p)
-    ∙ rule_at_lem a.block.now (bytes c) (accepts a.block.now (bytes c) a.o a.array a.segment a.k p) a.segment i
+    ∙ ap (λ (x : Opened). rule_at a.block.now x.order (segment_rule a.block.now a.segment) i) (is a.block.now (bytes (goal.at.After-rule_at-rule c).After-shared_slice_known-1) a.o a.array a.segment a.k p)
+    ∙ rule_at_lem a.block.now (bytes (goal.at.After-rule_at-rule c).After-shared_slice_known-1) (accepts a.block.now (bytes (goal.at.After-rule_at-rule c).After-shared_slice_known-1) a.o a.array a.segment a.k p) a.segment i
 
 pub time-time-requires : goal.time-time-requires
 time-time-requires c =
@@ -68,7 +68,7 @@ time-time-requires c =
     let p = c.requires in
     let t = timed a.block.now (bytes (goal.at.time-time-requires c).After-shared_slice_known-1) a.o a.array a.segment a.k p in
     record {
-      finite_rule = rule_finite a.block.now (bytes (goal.at.time-time-requires c).After-shared_slice_known-1) a.o a.segment t c.rule_at_lem.result (place_by a.o a.k) (ruled (goal.at.time-time-requires c).After-rule_at-rule);
+      finite_rule = rule_finite a.block.now (bytes (goal.at.time-time-requires c).After-shared_slice_known-1) a.o a.segment t c.rule_at-rule.result (place_by a.o a.k) (ruled (goal.at.time-time-requires c).After-rule_at-rule);
       i_bound = omega (arith, place-small a.block.now (bytes (goal.at.time-time-requires c).After-shared_slice_known-1) a.o a.array a.segment a.k p);
     }
 
@@ -79,6 +79,6 @@ returns c =
     let v = c.sampled_at-sampled in
     let f = c.samples_from-from in
     point_is a.block.now (bytes (goal.at.returns c).After-shared_slice_known-1) a.o a.array a.segment a.k p v.result.value c.time-time.result v.result.mark
-    (v.ensures.0 ∙ ap (λ (x : ℕ). value_at a.o.calibration.gain a.o.calibration.offset a.o.order (a.o.kind + 1) a.block.now x a.k) f.ensures ∙ value_is a.block.now (bytes (goal.at.returns c).After-shared_slice_known-1) a.o a.array a.segment a.k p)
+    (c.sampled_at-sampled.ensures.value_value ∙ ap (λ (x : ℕ). value_at a.o.calibration.gain a.o.calibration.offset a.o.order (a.o.kind + 1) a.block.now x a.k) c.samples_from-from.ensures ∙ value_is a.block.now (bytes (goal.at.returns c).After-shared_slice_known-1) a.o a.array a.segment a.k p)
     (c.time-time.ensures.value ∙ ap (λ (x : Rule). time_by x (place_by a.o a.k)) (ruled (goal.at.returns c).After-rule_at-rule))
-    (v.ensures.1 ∙ ap (λ (x : ℕ). mark_at a.o.order (a.o.kind + 1) a.block.now x a.k) f.ensures ∙ mark_is a.block.now (bytes (goal.at.returns c).After-shared_slice_known-1) a.o a.array a.segment a.k p)
+    (c.sampled_at-sampled.ensures.mark_value ∙ ap (λ (x : ℕ). mark_at a.o.order (a.o.kind + 1) a.block.now x a.k) c.samples_from-from.ensures ∙ mark_is a.block.now (bytes (goal.at.returns c).After-shared_slice_known-1) a.o a.array a.segment a.k p)

@@ -34,5 +34,5 @@ returns c =
     let some : Bool = ltb p.k p.points in
     let room : Bool = leb (p.samples + (p.k * (p.kind + 1) + (p.kind + 1))) a.len in
     let small : Bool = ltb a.i 268435456 in
-    ap (λ (x : Bool). (some && x) && small) c.fits2.ensures ∙ joined-all (some ∷ room ∷ small ∷ [])
+    ap (λ (x : Bool). (some && x) && small) c.fits-within.ensures ∙ joined-all (some ∷ room ∷ small ∷ [])
     ∙ sym (ap (λ (x : Bool). x && all (some ∷ room ∷ small ∷ [])) (le-leb p.kind 1 c.if-kind-gt1.false))

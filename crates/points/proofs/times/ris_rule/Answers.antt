@@ -11,4 +11,4 @@ returns c =
     let a = c.args in
     let m = c.at_least_one in
     ap (λ x. Ris a.interval x (a.i % m.result)) c.ris_offset.ensures
-    ∙ ap (λ (m : ℕ). Ris a.interval (ris_offset a.block.now a.order a.table (a.i % m)) (a.i % m)) m.ensures
+    ∙ ap (λ (m : ℕ). Ris a.interval (ris_offset a.block.now a.order a.table (a.i % m)) (a.i % m)) c.at_least_one.ensures

@@ -6,12 +6,12 @@ use borrow.Author.Rules.{rules}
 use Rattle.points.proofs.times.rule_at.Goals as goal
 
 pub returns-in-Segment : goal.returns-in-Segment
-returns-in-Segment c = let a = c.args in ap (λ (r : SegmentRule). rule_at a.block.now a.order r a.i) (sym c.rule-1.given.1)
+returns-in-Segment c = let a = c.args in ap (λ (r : SegmentRule). rule_at a.block.now a.order r a.i) (sym c.in-Segment.is)
 
 pub returns-in-Ris : goal.returns-in-Ris
 returns-in-Ris c =
     let a = c.args in
-    c.ris_rule_lem.ensures ∙ ap (λ (r : SegmentRule). rule_at a.block.now a.order r a.i) (sym c.rule-in-Ris-1.given.1)
+    c.ris_rule.ensures ∙ ap (λ (r : SegmentRule). rule_at a.block.now a.order r a.i) (sym c.in-Ris.is)
 
 pub returns-in-Horizontal : goal.returns-in-Horizontal
-returns-in-Horizontal c = let a = c.args in ap (λ (r : SegmentRule). rule_at a.block.now a.order r a.i) (sym c.rule-in-Horizontal-1.given.1)
+returns-in-Horizontal c = let a = c.args in ap (λ (r : SegmentRule). rule_at a.block.now a.order r a.i) (sym c.in-Horizontal.is)

@@ -42,7 +42,7 @@ returns-then-trig-ne0 c =
 pub overflow_add-result : goal.overflow_add-result
 overflow_add-result c =
     let a = c.args in
-    omega (arith, table_fits a.block.now (bytes (goal.at.overflow_add-result c).After-shared_slice_known-1) a.o a.segment c.requires, c.well-formed.0)
+    omega (arith, table_fits a.block.now (bytes (goal.at.overflow_add-result c).After-shared_slice_known-1) a.o a.segment c.requires, c.well_formed.0)
 
 pub returns-then-ris-ne0 : goal.returns-then-ris-ne0
 returns-then-ris-ne0 c =

@@ -15,22 +15,22 @@ bytes c = below-index 256 c.args.block.now (λ i h. (c.type_inv.block i).fits)
 
 pub returns-then-o-ne0 : goal.returns-then-o-ne0
 returns-then-o-ne0 c =
-    let o = c.«open» in
+    let o = c.open-o in
     let a = c.args in
-    c.refused.ensures ∙ place-refused a.block.now a.array a.segment o.result.refusal (walk_block a.block.now a.array a.segment o.result o.ensures c.if-o-ne0.true) c.if-o-ne0.true
+    c.refused.ensures ∙ place-refused a.block.now a.array a.segment o.result.refusal (walk_block a.block.now a.array a.segment o.result c.open-o.ensures c.if-o-ne0.true) c.if-o-ne0.true
 
 pub returns-then-number-ne0 : goal.returns-then-number-ne0
 returns-then-number-ne0 c =
-    let o = c.«open» in
+    let o = c.open-o in
     let a = c.args in
     let h = c.chosen-number in
     c.refused-then-number-ne0.ensures
-    ∙ place-refused a.block.now a.array a.segment h.result (walk_segment a.block.now a.array a.segment o.result o.ensures c.if-o-ne0.false h.result h.ensures c.if-number-ne0.true) c.if-number-ne0.true
+    ∙ place-refused a.block.now a.array a.segment h.result (walk_segment a.block.now a.array a.segment o.result c.open-o.ensures c.if-o-ne0.false h.result c.chosen-number.ensures c.if-number-ne0.true) c.if-number-ne0.true
 
 pub begun-requires : goal.begun-requires
 begun-requires c =
-    let o = c.«open» in
+    let o = c.open-o in
     let a = c.args in
     let h = c.chosen-number in
     let z = c.if-o-ne0.false in
-    record { opens = o.ensures; answers = point_none a.block.now o.result o.ensures a.array a.segment 0 z h.result h.ensures c.if-number-ne0.false (some-points a.block.now (bytes (goal.at.begun-requires c).After-shared_slice_known-1) o.result o.ensures z) }
+    record { opens = c.open-o.ensures; answers = point_none a.block.now o.result c.open-o.ensures a.array a.segment 0 z h.result c.chosen-number.ensures c.if-number-ne0.false (some-points a.block.now (bytes (goal.at.begun-requires c).After-shared_slice_known-1) o.result c.open-o.ensures z) }

@@ -12,7 +12,7 @@ pub returns-then-not-is_inside : goal.returns-then-not-is_inside
 returns-then-not-is_inside c =
     let a = c.args in
     let i = c.index_of-i in
-    outside a.block.now a.place i.result i.ensures (fails c.is_inside.ensures c.if-not-is_inside.true-raw)
+    outside a.block.now a.place i.result c.index_of-i.ensures (fails c.is_inside.ensures c.if-not-is_inside.true-raw)
 
 pub overflow_cast-i : goal.overflow_cast-i
 overflow_cast-i c =
@@ -23,8 +23,8 @@ pub returns-then-not-is_finite : goal.returns-then-not-is_finite
 returns-then-not-is_finite c =
     let a = c.args in
     let i = c.index_of-i in
-    let r = c.rule_at_lem in
-    unsound a.block.now a.place i.result i.ensures (passes c.is_inside.ensures c.if-not-is_inside.false-raw) (rule_as r.result) r.ensures
+    let r = c.rule_at-rule in
+    unsound a.block.now a.place i.result c.index_of-i.ensures (passes c.is_inside.ensures c.if-not-is_inside.false-raw) (rule_as r.result) c.rule_at-rule.ensures
     (fails c.is_finite.ensures c.if-not-is_finite.true-raw)
 
 pub answered-requires : goal.answered-requires
@@ -37,7 +37,7 @@ pub returns : goal.returns
 returns c =
     let a = c.args in
     let i = c.index_of-i in
-    let r = c.rule_at_lem in
+    let r = c.rule_at-rule in
     c.answered.ensures
-    ∙ sound a.block.now a.place i.result i.ensures (passes c.is_inside.ensures c.if-not-is_inside.false-raw) (rule_as r.result) r.ensures
+    ∙ sound a.block.now a.place i.result c.index_of-i.ensures (passes c.is_inside.ensures c.if-not-is_inside.false-raw) (rule_as r.result) c.rule_at-rule.ensures
     (passes c.is_finite.ensures c.if-not-is_finite.false-raw)

@@ -23,18 +23,18 @@ pair_at-pair-requires c = c.loop-left.invariant.1
 
 -- where a pair was looked for
 abbrev line : After-pair_at-pair → List ℕ
-line p = p.args.line.now
+line c = c.args.line.now
 
 pub returns-then-key-eq4 : goal.returns-then-key-eq4
 returns-then-key-eq4 c =
     let l = c.loop-left in
-    step_none (line c) l.at l.left l.values c.pair_at-pair.result c.pair_at-pair.ensures c.loop-left-test.true c.if-key-eq4.true ∙ l.invariant.3
+    step_none (line (goal.at.returns-then-key-eq4 c).After-pair_at-pair) l.at l.left l.values c.pair_at-pair.result c.pair_at-pair.ensures c.loop-left-test.true c.if-key-eq4.true ∙ l.invariant.3
 
 -- there is one: its key is below 4, and it ends within the line
-within : (c : Else-key-eq4) → (c.pair_at-pair.result.key < 4) × (c.pair_at-pair.result.next ≤ length (line c))
+within : (c : Else-key-eq4) → (c.pair_at-pair.result.key < 4) × (c.pair_at-pair.result.next ≤ length (line (goal.at.Else-key-eq4 c).After-pair_at-pair))
 within c =
     let l = c.loop-left in
-    found_within (line c) l.at l.left l.values c.pair_at-pair.result c.pair_at-pair.ensures c.loop-left-test.true c.if-key-eq4.false l.invariant.1
+    found_within (line (goal.at.Else-key-eq4 c).After-pair_at-pair) l.at l.left l.values c.pair_at-pair.result c.pair_at-pair.ensures c.loop-left-test.true c.if-key-eq4.false l.invariant.1
 
 pub offset_bounds-values-key : goal.offset_bounds-values-key
 offset_bounds-values-key c = omega (arith, (within (goal.at.offset_bounds-values-key c).Else-key-eq4).0)
@@ -45,7 +45,7 @@ bounds-values-key c = omega (arith, (within (goal.at.bounds-values-key c).Else-k
 pub returns-then-values-key-ne-MISSING : goal.returns-then-values-key-ne-MISSING
 returns-then-values-key-ne-MISSING c =
     let l = c.loop-left in
-    step_twice (line c) l.at l.left l.values c.pair_at-pair.result c.pair_at-pair.ensures c.loop-left-test.true c.if-key-eq4.false c.if-values-key-ne-MISSING.true ∙ l.invariant.3
+    step_twice (line (goal.at.returns-then-values-key-ne-MISSING c).After-pair_at-pair) l.at l.left l.values c.pair_at-pair.result c.pair_at-pair.ensures c.loop-left-test.true c.if-key-eq4.false c.if-values-key-ne-MISSING.true ∙ l.invariant.3
 
 pub offset_bounds-values-key-in-loop-left : goal.offset_bounds-values-key-in-loop-left
 offset_bounds-values-key-in-loop-left c = omega (arith, (within (goal.at.offset_bounds-values-key-in-loop-left c).Else-key-eq4).0)
@@ -57,11 +57,11 @@ pub returns-then-next-line : goal.returns-then-next-line
 returns-then-next-line c =
     let l = c.loop-left in
     ap (λ (s : Setup). Taken (setup_of s)) c.setup_of-setup.ensures
-    ∙ step_end (line c) l.at l.left l.values c.pair_at-pair.result c.pair_at-pair.ensures c.loop-left-test.true c.if-key-eq4.false c.if-values-key-ne-MISSING.false c.if-next-line.true ∙ l.invariant.3
+    ∙ step_end (line (goal.at.returns-then-next-line c).After-pair_at-pair) l.at l.left l.values c.pair_at-pair.result c.pair_at-pair.ensures c.loop-left-test.true c.if-key-eq4.false c.if-values-key-ne-MISSING.false c.if-next-line.true ∙ l.invariant.3
 
 -- something stands behind it
-more : (c : Else-next-line) → c.pair_at-pair.result.next < length (line c)
-more c = lt_of_le-ne (within c).1 c.if-next-line.false
+more : (c : Else-next-line) → c.pair_at-pair.result.next < length (line (goal.at.Else-next-line c).After-pair_at-pair)
+more c = lt_of_le-ne (within (goal.at.Else-next-line c).Else-key-eq4).1 c.if-next-line.false
 
 pub bounds-line-next : goal.bounds-line-next
 bounds-line-next c = more (goal.at.bounds-line-next c).Else-next-line
@@ -69,7 +69,7 @@ bounds-line-next c = more (goal.at.bounds-line-next c).Else-next-line
 pub returns-then-line-next-ne44 : goal.returns-then-line-next-ne44
 returns-then-line-next-ne44 c =
     let l = c.loop-left in
-    step_stop (line c) l.at l.left l.values c.pair_at-pair.result c.pair_at-pair.ensures c.loop-left-test.true c.if-key-eq4.false (more (goal.at.returns-then-line-next-ne44 c).Else-next-line) c.if-line-next-ne44.true ∙ l.invariant.3
+    step_stop (line (goal.at.returns-then-line-next-ne44 c).After-pair_at-pair) l.at l.left l.values c.pair_at-pair.result c.pair_at-pair.ensures c.loop-left-test.true c.if-key-eq4.false (more (goal.at.returns-then-line-next-ne44 c).Else-next-line) c.if-line-next-ne44.true ∙ l.invariant.3
 
 pub overflow_add-at : goal.overflow_add-at
 overflow_add-at c = omega (arith, more (goal.at.overflow_add-at c).Else-next-line)
@@ -87,7 +87,7 @@ loop-left-preserved c =
       length-set l.values r.key r.value ∙ l.invariant.0,
       omega (arith, more (goal.at.loop-left-preserved c).Else-next-line),
       omega (arith, l.invariant.2),
-      step_more (line c) l.at l.left l.values r c.pair_at-pair.ensures c.loop-left-test.true c.if-key-eq4.false (more (goal.at.loop-left-preserved c).Else-next-line) c.if-values-key-ne-MISSING.false c.if-line-next-ne44.false ∙ l.invariant.3,
+      step_more (line (goal.at.loop-left-preserved c).After-pair_at-pair) l.at l.left l.values r c.pair_at-pair.ensures c.loop-left-test.true c.if-key-eq4.false (more (goal.at.loop-left-preserved c).Else-next-line) c.if-values-key-ne-MISSING.false c.if-line-next-ne44.false ∙ l.invariant.3,
     )
 
 pub returns : goal.returns

@@ -34,38 +34,38 @@ put_pair-sp-requires c = record {
 
 -- where each ends
 first-end : (c : After-put_pair-sp) → let a = c.args in c.put_pair-sp.result ≡ 8 + a.widths.sp
-first-end c = let a = c.args in omega (arith, c.put_pair-sp.ensures.ends, length-spelled 10 (places a.setup.sp) a.setup.sp, is_sp c)
+first-end c = let a = c.args in omega (arith, c.put_pair-sp.ensures.ends, length-spelled 10 (places a.setup.sp) a.setup.sp, is_sp (goal.at.After-put_pair-sp c).After-slice_known-1)
 
 second-end : (c : After-put_pair-np) → let a = c.args in c.put_pair-np.result ≡ 12 + (a.widths.sp + a.widths.np)
 second-end c =
     let a = c.args in
-    omega (arith, c.put_pair-np.ensures.ends, first-end c, length-spelled 10 (places a.setup.np) a.setup.np, is_np c)
+    omega (arith, c.put_pair-np.ensures.ends, first-end (goal.at.After-put_pair-np c).After-put_pair-sp, length-spelled 10 (places a.setup.np) a.setup.np, is_np (goal.at.After-put_pair-np c).After-slice_known-1)
 
 third_end : (c : After-put_pair-fp) → let a = c.args in
     c.put_pair-fp.result ≡ 16 + (a.widths.sp + a.widths.np + a.widths.fp)
 third_end c =
     let a = c.args in
-    omega (arith, c.put_pair-fp.ensures.ends, second-end c, length-spelled 10 (places a.setup.fp) a.setup.fp, is_fp c)
+    omega (arith, c.put_pair-fp.ensures.ends, second-end (goal.at.After-put_pair-fp c).After-put_pair-np, length-spelled 10 (places a.setup.fp) a.setup.fp, is_fp (goal.at.After-put_pair-fp c).After-slice_known-1)
 
 pub put_pair-np-requires : goal.put_pair-np-requires
 put_pair-np-requires c =
     record {
       width_value = is_np (goal.at.put_pair-np-requires c).After-slice_known-1;
-      width_in_bounds = omega (arith, c.requires.widths_in_bounds, first-end (goal.at.put_pair-np-requires c).After-put_pair-sp, c.put_pair-sp.auto.1.1.1.0);
+      width_in_bounds = omega (arith, c.requires.widths_in_bounds, first-end (goal.at.put_pair-np-requires c).After-put_pair-sp, c.put_pair-sp.auto.out);
     }
 
 pub put_pair-fp-requires : goal.put_pair-fp-requires
 put_pair-fp-requires c =
     record {
       width_value = is_fp (goal.at.put_pair-fp-requires c).After-slice_known-1;
-      width_in_bounds = omega (arith, c.requires.widths_in_bounds, second-end (goal.at.put_pair-fp-requires c).After-put_pair-np, c.put_pair-sp.auto.1.1.1.0, c.put_pair-np.auto.1.1.1.0);
+      width_in_bounds = omega (arith, c.requires.widths_in_bounds, second-end (goal.at.put_pair-fp-requires c).After-put_pair-np, c.put_pair-sp.auto.out, c.put_pair-np.auto.out);
     }
 
 pub put_pair-requires : goal.put_pair-requires
 put_pair-requires c =
     record {
       width_value = is_sn (goal.at.put_pair-requires c).After-slice_known-1;
-      width_in_bounds = omega (arith, c.requires.widths_in_bounds, third_end (goal.at.put_pair-requires c).After-put_pair-fp, c.put_pair-sp.auto.1.1.1.0, c.put_pair-np.auto.1.1.1.0, c.put_pair-fp.auto.1.1.1.0);
+      width_in_bounds = omega (arith, c.requires.widths_in_bounds, third_end (goal.at.put_pair-requires c).After-put_pair-fp, c.put_pair-sp.auto.out, c.put_pair-np.auto.out, c.put_pair-fp.auto.out);
     }
 
 pub returns : goal.returns

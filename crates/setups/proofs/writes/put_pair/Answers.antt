@@ -14,7 +14,7 @@ pub put_digits-requires : goal.put_digits-requires
 put_digits-requires c =
     record {
       base_nonzero = (omega arith, omega arith);
-      width_in_bounds = omega (arith, c.requires.width_in_bounds, c.copy_bytes.auto.1.1.1.0);
+      width_in_bounds = omega (arith, c.requires.width_in_bounds, c.copy_bytes.auto.out);
     }
 
 pub returns : goal.returns

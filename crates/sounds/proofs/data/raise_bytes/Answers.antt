@@ -17,7 +17,7 @@ loop-i-preserved c =
     let byte = c.wrapping_add_u8 in (
       omega arith,
       simp length-set c.loop-i.invariant.1,
-      ap (set c.loop-i.out (a.at + i)) byte.ensures
+      ap (set c.loop-i.out (a.at + i)) c.wrapping_add_u8.ensures
           ∙ sets-eq ((get_or a.src.now (a.from + i) 0 + 128) % 256 ∷ []) c.loop-i.out (a.at + i) (omega arith)
           ∙ rw c.loop-i.invariant.2
           (rw mul-one at (gather-step (λ k. (get_or a.src.now (a.from + k) 0 + 128) % 256 ∷ []) 1 i (λ k h. refl) a.out.now a.at (simp mul-one (omega arith)))),

@@ -26,12 +26,12 @@ loop-k-preserved c =
     let a = c.args in
     let l = c.loop-k in
     let f = a.file.now in
-    let h = c.requires.0.narrow in
+    let h = c.requires.holds.narrow in
     let r = c.sample in
     let zero_more : l.k ≡ 0 + l.k = omega arith in (
       omega arith,
       simp length-set l.invariant.1,
-      map-one (heard_at a.width f) a.out.now l.out 0 0 l.k l.k l.k _ (passed r.result (heard_at a.width f l.k) r.ensures (sample-fits f (bytes (goal.at.loop-k-preserved c).After-shared_slice_known-1) a.width l.k h.0 h.1)) zero_more zero_more (omega arith) l.invariant.2,
+      map-one (heard_at a.width f) a.out.now l.out 0 0 l.k l.k l.k _ (passed r.result (heard_at a.width f l.k) c.sample.ensures (sample-fits f (bytes (goal.at.loop-k-preserved c).After-shared_slice_known-1) a.width l.k h.0 h.1)) zero_more zero_more (omega arith) l.invariant.2,
     )
 
 pub shape_of-out : goal.shape_of-out

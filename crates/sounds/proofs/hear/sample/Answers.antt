@@ -27,7 +27,7 @@ returns-then-width-eq1 c =
     let e : a.k ≡ a.k * 1 = omega arith in
     let h = c.requires.narrow in
     passed c.lowered.result (heard_at a.width f a.k)
-    (c.lowered.ensures ∙ ap (heard 1) (n.ensures 1) ∙ ap (λ (m : ℕ). heard 1 (number 1 (take 1 (drop (44 + m) f)))) e ∙ ap (λ (v : ℕ). heard_at v f a.k) (sym c.if-width-eq1.true))
+    (c.lowered.ensures ∙ ap (heard 1) (c.u8_at-b.ensures 1) ∙ ap (λ (m : ℕ). heard 1 (number 1 (take 1 (drop (44 + m) f)))) e ∙ ap (λ (v : ℕ). heard_at v f a.k) (sym c.if-width-eq1.true))
     (sample-fits f (bytes (goal.at.returns-then-width-eq1 c).After-shared_slice_known-1) a.width a.k h.0 h.1)
 
 pub overflow_mul-k : goal.overflow_mul-k
@@ -48,5 +48,5 @@ returns c =
     let w = words c.requires c.if-width-eq1.false in
     let h = c.requires.narrow in
     passed c.signed16.result (heard_at a.width f a.k)
-    (c.signed16.ensures ∙ ap (signed 2) n.ensures ∙ ap (λ (v : ℕ). heard_at v f a.k) (sym w.0))
+    (c.signed16.ensures ∙ ap (signed 2) c.u16_at-n.ensures ∙ ap (λ (v : ℕ). heard_at v f a.k) (sym w.0))
     (sample-fits f (bytes (goal.at.returns c).After-shared_slice_known-1) a.width a.k h.0 h.1)

@@ -57,8 +57,8 @@ loop-q-preserved c =
     let f : ℕ → ℤ = sample_at a.order a.size a.block.now a.from in
     let h : l.q < a.columns = c.loop-q-test.true in
     let room = c.requires.columns_in_bounds in
-    let low = to_z-of_z w16 c.column-t.result.least (record { sfits = c.type_inv.t.0.1 }) ∙ c.column-t.ensures.least_value ∙ ap₂ (λ (x y : ℕ). joined lesser (run f x y)) l.invariant.1 e.2 in
-    let high = to_z-of_z w16 c.column-t.result.greatest (record { sfits = c.type_inv.t.1.0.1 }) ∙ c.column-t.ensures.greatest_value ∙ ap₂ (λ (x y : ℕ). joined greater (run f x y)) l.invariant.1 e.2 in (
+    let low = to_z-of_z w16 c.column-t.result.least (record { sfits = c.struct_told-1.given.0.1 }) ∙ c.column-t.ensures.least_value ∙ ap₂ (λ (x y : ℕ). joined lesser (run f x y)) l.invariant.1 e.2 in
+    let high = to_z-of_z w16 c.column-t.result.greatest (record { sfits = c.struct_told-in-loop-q-1.given.1.0.1 }) ∙ c.column-t.ensures.greatest_value ∙ ap₂ (λ (x y : ℕ). joined greater (run f x y)) l.invariant.1 e.2 in (
       omega (arith, h),
       c.boundary-b.ensures,
       c.column-t.ensures.seen_2,

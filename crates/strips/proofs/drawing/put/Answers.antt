@@ -15,7 +15,7 @@ use Rattle.strips.proofs.drawing.put.Goals.{Start}
 
 -- samples of so many bytes
 abbrev samples : Start → ℕ → ℕ → ℤ
-samples s size = let a = s.args in sample_at a.order size a.block.now a.from
+samples c size = let a = c.args in sample_at a.order size a.block.now a.from
 
 -- what is left of the leasts or of the greatests, and what is known of all, where f are these samples
 module _ (s : Start) (k : ℕ) (e : s.args.size ≡ k) (f : ℕ → ℤ) (p : f ≡ samples s k) where
@@ -40,9 +40,9 @@ returns-then-size-eq1 c =
     let f : ℕ → ℤ = sample_at 0 1 a.block.now a.from in
     let q = any_order 0 a.order a.block.now a.from in
     record {
-      seen = seen c 1 e f q c.put_each.result c.put_each.ensures.seen;
-      lows_after = c.put_each.ensures.lows_after ∙ left c 1 e f q lesser a.lows.now;
-      highs_after = c.put_each.ensures.highs_after ∙ left c 1 e f q greater a.highs.now;
+      seen = seen (goal.at.returns-then-size-eq1 c).Start 1 e f q c.put_each.result c.put_each.ensures.seen;
+      lows_after = c.put_each.ensures.lows_after ∙ left (goal.at.returns-then-size-eq1 c).Start 1 e f q lesser a.lows.now;
+      highs_after = c.put_each.ensures.highs_after ∙ left (goal.at.returns-then-size-eq1 c).Start 1 e f q greater a.highs.now;
     }
 
 pub put_each-requires-2 : goal.put_each-requires-2
@@ -57,9 +57,9 @@ pub returns : goal.returns
 returns c =
     let a = c.args in
     let e = (words c.requires.holds c.if-size-eq1.false).0 in
-    let f = samples c 2 in
+    let f = samples (goal.at.returns c).Start 2 in
     record {
-      seen = seen c 2 e f refl c.put_each-2.result c.put_each-2.ensures.seen;
-      lows_after = c.put_each-2.ensures.lows_after ∙ left c 2 e f refl lesser a.lows.now;
-      highs_after = c.put_each-2.ensures.highs_after ∙ left c 2 e f refl greater a.highs.now;
+      seen = seen (goal.at.returns c).Start 2 e f refl c.put_each-2.result c.put_each-2.ensures.seen;
+      lows_after = c.put_each-2.ensures.lows_after ∙ left (goal.at.returns c).Start 2 e f refl lesser a.lows.now;
+      highs_after = c.put_each-2.ensures.highs_after ∙ left (goal.at.returns c).Start 2 e f refl greater a.highs.now;
     }

@@ -86,13 +86,13 @@ loop-q-preserved c =
     let f : ℕ → ℤ = sample_at a.order a.size a.block.now a.from in
     let h : l.q < a.columns = c.loop-q-test.true in
     let room = c.requires.columns_in_bounds in
-    let low = more lesser f a.count a.columns l.q l.a c.boundary-b.result c.column-t.result.least a.lows.now l.lows _ (record { sfits = c.type_inv.t.0.1 }) c.column-t.ensures.least_value l.invariant.1 e.2 room.0 h l.invariant.5 c.put_signed.ensures in
-    let high = more greater f a.count a.columns l.q l.a c.boundary-b.result c.column-t.result.greatest a.highs.now l.highs _ (record { sfits = c.type_inv.t.1.0.1 }) c.column-t.ensures.greatest_value l.invariant.1 e.2 room.1 h l.invariant.6 c.put_signed-in-loop-q.ensures in (
+    let low = more lesser f a.count a.columns l.q l.a c.boundary-b.result c.column-t.result.least a.lows.now l.lows _ (record { sfits = c.struct_told-1.given.0.1 }) c.column-t.ensures.least_value l.invariant.1 e.2 room.0 h l.invariant.5 c.put_signed.ensures in
+    let high = more greater f a.count a.columns l.q l.a c.boundary-b.result c.column-t.result.greatest a.highs.now l.highs _ (record { sfits = c.struct_told-in-loop-q-1.given.1.0.1 }) c.column-t.ensures.greatest_value l.invariant.1 e.2 room.1 h l.invariant.6 c.put_signed-in-loop-q.ensures in (
       omega (arith, h),
       c.boundary-b.ensures,
       c.column-t.ensures.seen_2,
-      c.put_signed.auto.1.0 ∙ l.invariant.3,
-      c.put_signed-in-loop-q.auto.1.0 ∙ l.invariant.4,
+      c.put_signed.auto.out ∙ l.invariant.3,
+      c.put_signed-in-loop-q.auto.out ∙ l.invariant.4,
       low,
       high,
     )

@@ -43,7 +43,7 @@ overflow_add-low c = let l = c.loop-k in omega (arith, l.invariant.5, l.invarian
 pub overflow_add-high : goal.overflow_add-high
 overflow_add-high c =
     let l = c.loop-k in
-    omega (arith, l.invariant.6, l.invariant.0, c.loop-k-test.true, c.requires.a_lt_b.1, c.height_of-h.type-inv)
+    omega (arith, l.invariant.6, l.invariant.0, c.loop-k-test.true, c.requires.a_lt_b.1, c.height_of-h.type_inv)
 
 pub loop-k-preserved : goal.loop-k-preserved
 loop-k-preserved c =
@@ -52,17 +52,17 @@ loop-k-preserved c =
     let h : l.k < a.b = c.loop-k-test.true in
     let r = c.sample-z in
     let f : ℕ → ℤ = sample_at a.order a.size a.block.now a.from in
-    let z : to_z w16 (of_z w16 r.result) ≡ f l.k = to_z-of_z w16 r.result (record { sfits = r.type-inv }) ∙ r.ensures in
+    let z : to_z w16 (of_z w16 r.result) ≡ f l.k = to_z-of_z w16 r.result (record { sfits = r.type_inv }) ∙ c.sample-z.ensures in
     let low = c.lesser-least in
     let high = c.greater-greatest in
     let e : (l.k - a.a) * 255 + 255 ≡ (l.k + 1 - a.a) * 255 = omega (arith, l.invariant.0) in (
       omega (arith, l.invariant.0),
       omega (arith, h),
-      next lesser le_z picks_lesser (pos 32767) f a.a l.k l.invariant.0 _ _ low.result (record { sfits = low.type-inv }) low.ensures l.invariant.2 z,
-      next greater ge_ℤ picks_greater (negsuc 32767) f a.a l.k l.invariant.0 _ _ high.result (record { sfits = high.type-inv }) high.ensures l.invariant.3 z,
+      next lesser le_z picks_lesser (pos 32767) f a.a l.k l.invariant.0 _ _ low.result (record { sfits = low.type_inv }) c.lesser-least.ensures l.invariant.2 z,
+      next greater ge_ℤ picks_greater (negsuc 32767) f a.a l.k l.invariant.0 _ _ high.result (record { sfits = high.type_inv }) c.greater-greatest.ensures l.invariant.3 z,
       bytes_next f a.a l.k l.low l.high c.height_of-h.result l.invariant.0 l.invariant.4 (c.height_of-h.ensures ∙ ap height z),
       omega (arith, l.invariant.5, e),
-      omega (arith, l.invariant.6, e, c.height_of-h.type-inv),
+      omega (arith, l.invariant.6, e, c.height_of-h.type_inv),
     )
 
 -- both sums fit 16 bits
@@ -87,7 +87,7 @@ returns c =
     let l = c.loop-k in
     let f : ℕ → ℤ = sample_at a.order a.size a.block.now a.from in
     let e : l.k ≡ a.b = omega (arith, l.invariant.1, c.loop-k-test.false) in
-    let w : Words f = λ j. in_word a.order a.size a.block.now a.from j (below-index 256 a.block.now (λ i h. (c.type_inv.block i).fits)) c.requires.0.narrow in
+    let w : Words f = λ j. in_word a.order a.size a.block.now a.from j (below-index 256 a.block.now (λ i h. (c.type_inv.block i).fits)) c.requires.holds.narrow in
     λ i. record {
       least = (l.invariant.2 ∙ ap (λ (j : ℕ). least (pos 32767 ∷ run f a.a j)) e ∙ least_of f w a.a a.b c.requires.a_lt_b.0) i;
       greatest = (l.invariant.3 ∙ ap (λ (j : ℕ). greatest (negsuc 32767 ∷ run f a.a j)) e ∙ greatest_of f w a.a a.b c.requires.a_lt_b.0) i;

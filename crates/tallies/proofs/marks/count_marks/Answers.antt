@@ -25,7 +25,7 @@ pub sample-z-requires : goal.sample-z-requires
 sample-z-requires c = fewer c.requires.holds _ (omega arith)
 
 pub at_rail-requires : goal.at_rail-requires
-at_rail-requires c = c.requires.0.narrow
+at_rail-requires c = c.requires.holds.narrow
 
 -- the mark of one sample more
 one : (c : After-mark_number-n)
@@ -38,7 +38,7 @@ one c =
     let r = c.sample-z in
     let f : ℕ → ℤ = sample_at a.order a.size a.block.now a.from in
     let e : l.k - a.a + 1 ≡ l.k + 1 - a.a = omega (arith, l.invariant.0) in
-    marks-one a.size f a.a (l.k - a.a) l.k l.n c.mark_number-n.result _ (omega (arith, l.invariant.0)) l.invariant.2 (to_z-of_z w16 r.result (record { sfits = r.type-inv }) ∙ r.ensures) (c.mark_number-n.ensures ∙ ap mark_number c.at_rail.ensures)
+    marks-one a.size f a.a (l.k - a.a) l.k l.n c.mark_number-n.result _ (omega (arith, l.invariant.0)) l.invariant.2 (to_z-of_z w16 r.result (record { sfits = r.type_inv }) ∙ c.sample-z.ensures) (c.mark_number-n.ensures ∙ ap mark_number c.at_rail.ensures)
     ∙ ap (λ (n : ℕ). mark_count_of a.size (map f (up_from a.a n))) e
 
 pub overflow_add-n : goal.overflow_add-n

@@ -15,20 +15,20 @@ use Rattle.tessarquin.proofs.combining.tessarquin_combined.Goals.{After-combined
 
 -- the two setups that the call was asked for, and its count
 abbrev first : After-combined → Setup
-first p = let a = p.args in setup a.spa a.npa a.fpa a.sna
+first c = let a = c.args in setup a.spa a.npa a.fpa a.sna
 
 abbrev second : After-combined → Setup
-second p = let a = p.args in setup a.spb a.npb a.fpb a.snb
+second c = let a = c.args in setup a.spb a.npb a.fpb a.snb
 
 abbrev counted : After-combined → ℕ
-counted p = p.args.count
+counted c = c.args.count
 
 number : (c : After-combined) → number_of c.combined.result ≡ combined_refusal (first c) (second c)
 number c = combined-number (first c) (second c) (counted c) c.combined.result c.combined.ensures
 
 -- there is a setup: it is the combined one
-taken : (c : In-One-2) → combined_refusal (first c) (second c) ≡ 0
-taken c = sym (number c) ∙ ap number_of c.setup-1.given.1
+taken : (c : In-One-2) → combined_refusal (first (goal.at.In-One-2 c).After-combined) (second (goal.at.In-One-2 c).After-combined) ≡ 0
+taken c = sym (number (goal.at.In-One-2 c).After-combined) ∙ ap number_of c.in-One.is
 
 pub returns-then-answer-lt32 : goal.returns-then-answer-lt32
 unfolding combined_number combined_left
@@ -46,7 +46,7 @@ unfolding combined_number combined_left
 returns-in-Sparse c =
     let p : tie.After-combined = c in
     let told = own_refused (combined_refusal (first p) (second p)) (combined_bytes (first p) (second p) (counted p)) p.args.answer.now 12
-    (ap number_of (sym c.enum_told-1.given.1) ∙ number p) (λ e. omega (arith, e)) in record {
+    (ap number_of (sym c.in-Sparse.is) ∙ number p) (λ e. omega (arith, e)) in record {
       value = told.0;
       answer_after = told.1;
     }

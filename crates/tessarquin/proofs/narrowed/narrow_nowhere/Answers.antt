@@ -7,4 +7,4 @@ pub returns : goal.returns
 returns c =
     let a = c.args in
     let w = c.narrow-w in
-    calls.number a.block.now _ w.result _ (record { answers = w.ensures.0; leaves = w.ensures.1 })
+    calls.number a.block.now _ w.result _ (record { answers = c.narrow-w.ensures.value; leaves = c.narrow-w.ensures.out_after })

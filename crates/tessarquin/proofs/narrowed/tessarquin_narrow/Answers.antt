@@ -18,7 +18,7 @@ pub returns-then-w-ne0 : goal.returns-then-w-ne0
 returns-then-w-ne0 c =
     let a = c.args in
     let w = c.narrow-w in
-    let r = narrow-refused a.block.now a.out.now a.answer.now (omega (arith, c.if-answer-lt8.false)) w.result _ (record { answers = w.ensures.0; leaves = w.ensures.1 }) c.if-w-ne0.true in
+    let r = narrow-refused a.block.now a.out.now a.answer.now (omega (arith, c.if-answer-lt8.false)) w.result _ (record { answers = c.narrow-w.ensures.value; leaves = c.narrow-w.ensures.out_after }) c.if-w-ne0.true in
     record {
       value = r.0;
       out_after = r.1;
@@ -29,7 +29,7 @@ pub returns : goal.returns
 returns c =
     let a = c.args in
     let v = c.narrow-w in
-    let r = narrow_answered a.block.now a.out.now a.answer.now (omega (arith, c.if-answer-lt8.false)) v.result _ (record { answers = v.ensures.0; leaves = v.ensures.1 }) c.if-w-ne0.false _ c.put_u64.ensures in
+    let r = narrow_answered a.block.now a.out.now a.answer.now (omega (arith, c.if-answer-lt8.false)) v.result _ (record { answers = c.narrow-w.ensures.value; leaves = c.narrow-w.ensures.out_after }) c.if-w-ne0.false _ c.put_u64.ensures in
     record {
       value = r.0;
       out_after = r.1;

@@ -20,10 +20,10 @@ loop-i-preserved c =
     let a = c.args in
     let i = c.loop-i.i in (
       search rules,
-      c.put_u64.auto.1.1.0 ∙ c.loop-i.invariant.1,
+      c.put_u64.auto.out ∙ c.loop-i.invariant.1,
       c.put_u64.ensures
-          ∙ ap {B = List ℕ} (λ u. splice u (a.at + i * 8) (bytes 0 8 (get_or a.t1 i 0))) c.loop-i.invariant.2
-          ∙ number_next a.out.now a.at a.t1 i (omega arith) (omega (arith, c.requires)),
+          ∙ ap {B = List ℕ} (λ u. splice u (a.at + i * 8) (bytes 0 8 (get_or a.ten i 0))) c.loop-i.invariant.2
+          ∙ number_next a.out.now a.at a.ten i (omega arith) (omega (arith, c.requires)),
     )
 
 pub shape_of-out : goal.shape_of-out
@@ -31,4 +31,4 @@ shape_of-out c = c.loop-i.invariant.1
 
 pub returns : goal.returns
 returns c =
-    c.loop-i.invariant.2 ∙ ap {B = List ℕ} (λ l. splice c.args.out.now c.args.at (all_bytes 0 8 l)) (take_all c.loop-i.i c.args.t1 (omega arith))
+    c.loop-i.invariant.2 ∙ ap {B = List ℕ} (λ l. splice c.args.out.now c.args.at (all_bytes 0 8 l)) (take_all c.loop-i.i c.args.ten (omega arith))

@@ -13,14 +13,14 @@ use Rattle.tessarquin.proofs.parts.tessarquin_label.Goals as goal
 use Rattle.tessarquin.proofs.parts.tessarquin_label.Goals.{Else-o-ne0}
 
 accepts : (c : Else-o-ne0) → refusal c.args.block.now ≡ 0
-accepts c = sym (number_is c.args.block.now c.«open».result c.«open».ensures) ∙ c.if-o-ne0.false
+accepts c = sym (number_is c.args.block.now c.open-o.result c.open-o.ensures) ∙ c.if-o-ne0.false
 
 pub returns-then-o-ne0 : goal.returns-then-o-ne0
 unfolding label_number label_left
 returns-then-o-ne0 c =
     let a = c.args in
-    let o = c.«open» in
-    let told = own_refused (refusal a.block.now) (label_bytes a.block.now a.fallback.now) a.answer.now o.result.refusal (number_is a.block.now o.result o.ensures) c.if-o-ne0.true in record {
+    let o = c.open-o in
+    let told = own_refused (refusal a.block.now) (label_bytes a.block.now a.fallback.now) a.answer.now o.result.refusal (number_is a.block.now o.result c.open-o.ensures) c.if-o-ne0.true in record {
       value = told.0;
       answer_after = told.1;
     }

@@ -17,14 +17,14 @@ use Rattle.tessarquin.proofs.parts.tessarquin_layout.Goals.{Else-o-ne0}
 
 module _ (c : Else-o-ne0) where
   accepts : refusal c.args.block.now ≡ 0
-  accepts = sym (number_is c.args.block.now c.«open».result c.«open».ensures) ∙ c.if-o-ne0.false
+  accepts = sym (number_is c.args.block.now c.open-o.result c.open-o.ensures) ∙ c.if-o-ne0.false
 
 pub returns-then-o-ne0 : goal.returns-then-o-ne0
 unfolding layout_number layout_left
 returns-then-o-ne0 c =
     let a = c.args in
-    let o = c.«open» in
-    let told = own_refused (refusal a.block.now) (layout_bytes a.block.now) a.answer.now o.result.refusal (number_is a.block.now o.result o.ensures) c.if-o-ne0.true in record {
+    let o = c.open-o in
+    let told = own_refused (refusal a.block.now) (layout_bytes a.block.now) a.answer.now o.result.refusal (number_is a.block.now o.result c.open-o.ensures) c.if-o-ne0.true in record {
       value = told.0;
       answer_after = told.1;
     }
@@ -33,7 +33,7 @@ pub returns-then-answer-lt200 : goal.returns-then-answer-lt200
 unfolding layout_number layout_left
 returns-then-answer-lt200 c =
     let a = c.args in
-    let told = own_short (refusal a.block.now) (layout_bytes a.block.now) a.answer.now (accepts c) (omega (arith, c.if-answer-lt200.true, layout_length a.block.now)) in record {
+    let told = own_short (refusal a.block.now) (layout_bytes a.block.now) a.answer.now (accepts (goal.at.returns-then-answer-lt200 c).Else-o-ne0) (omega (arith, c.if-answer-lt200.true, layout_length a.block.now)) in record {
       value = told.0;
       answer_after = told.1;
     }
@@ -41,20 +41,20 @@ returns-then-answer-lt200 c =
 pub put_layout-requires : goal.put_layout-requires
 put_layout-requires c =
     let a = c.args in
-    let o = c.«open» in
+    let o = c.open-o in
     record {
       in_bounds = omega arith;
-      lengths_len = ap (λ (x : Opened). length x.layout.lengths) (accepted_as_lem a.block.now o.result o.ensures (accepts c));
+      lengths_len = ap (λ (x : Opened). length x.layout.lengths) (accepted_as_lem a.block.now o.result c.open-o.ensures (accepts (goal.at.put_layout-requires c).Else-o-ne0));
     }
 
 pub returns : goal.returns
 unfolding layout_number layout_left starts_of
 returns c =
     let a = c.args in
-    let o = c.«open» in
-    let z = accepts c in
+    let o = c.open-o in
+    let z = accepts (goal.at.returns c).Else-o-ne0 in
     let r = own_left (refusal a.block.now) (layout_bytes a.block.now) a.answer.now z (omega (arith, c.if-answer-lt200.false, layout_length a.block.now)) in
     record {
       value = r.0;
-      answer_after = c.put_layout.ensures ∙ ap {B = List ℕ} (λ (x : Opened). splice a.answer.now 0 (all_bytes 0 8 (x.start ∷ x.first ∷ x.sparsing ∷ x.index ∷ x.subarrays ∷ x.layout.lengths ++ x.layout.starts))) (accepted_as_lem a.block.now o.result o.ensures z) ∙ r.1;
+      answer_after = c.put_layout.ensures ∙ ap {B = List ℕ} (λ (x : Opened). splice a.answer.now 0 (all_bytes 0 8 (x.start ∷ x.first ∷ x.sparsing ∷ x.index ∷ x.subarrays ∷ x.layout.lengths ++ x.layout.starts))) (accepted_as_lem a.block.now o.result c.open-o.ensures z) ∙ r.1;
     }

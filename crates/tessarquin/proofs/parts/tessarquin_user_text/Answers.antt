@@ -20,14 +20,14 @@ bytes : (c : After-shared_slice_known-1) → Bytes c.args.block.now
 bytes c = below-index 256 c.args.block.now (λ i h. (c.type_inv.block i).fits)
 
 accepts : (c : Else-o-ne0) → refusal c.args.block.now ≡ 0
-accepts c = sym (number_is c.args.block.now c.«open».result c.«open».ensures) ∙ c.if-o-ne0.false
+accepts c = sym (number_is c.args.block.now c.open-o.result c.open-o.ensures) ∙ c.if-o-ne0.false
 
 pub returns-then-o-ne0 : goal.returns-then-o-ne0
 unfolding text_number text_left
 returns-then-o-ne0 c =
     let a = c.args in
-    let o = c.«open» in
-    let told = own_refused (refusal a.block.now) (text_bytes a.block.now) a.answer.now o.result.refusal (number_is a.block.now o.result o.ensures) c.if-o-ne0.true in record {
+    let o = c.open-o in
+    let told = own_refused (refusal a.block.now) (text_bytes a.block.now) a.answer.now o.result.refusal (number_is a.block.now o.result c.open-o.ensures) c.if-o-ne0.true in record {
       value = told.0;
       answer_after = told.1;
     }
@@ -43,7 +43,7 @@ returns-then-answer-lt16 c =
 
 pub text_span-s-requires : goal.text_span-s-requires
 text_span-s-requires c = record {
-      o_value = c.«open».ensures;
+      o_value = c.open-o.ensures;
       bytes = bytes (goal.at.text_span-s-requires c).After-shared_slice_known-1;
     }
 

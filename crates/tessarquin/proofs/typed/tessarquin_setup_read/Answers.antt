@@ -17,14 +17,14 @@ use Rattle.tessarquin.proofs.typed.tessarquin_setup_read.Goals.{After-read, In-T
 
 -- the line that was lent
 abbrev line : After-read → List ℕ
-line p = p.args.line.now
+line c = c.args.line.now
 
 number : (c : After-read) → number_of c.read.result ≡ read_refusal (line c)
 number c = read_number (line c) c.read.result c.read.ensures
 
 -- there is a setup: it is the line's
-taken : (c : In-Taken-2) → read_refusal (line c) ≡ 0
-taken c = sym (number c) ∙ ap number_of c.setup-1.given.1
+taken : (c : In-Taken-2) → read_refusal (line (goal.at.In-Taken-2 c).After-read) ≡ 0
+taken c = sym (number (goal.at.In-Taken-2 c).After-read) ∙ ap number_of c.in-Taken.is
 
 pub returns-then-answer-lt32 : goal.returns-then-answer-lt32
 unfolding setup_read_number setup_read_left
@@ -41,7 +41,7 @@ unfolding setup_read_number setup_read_left
 returns-in-Text c =
     let p : tie.After-read = c in
     let told = own_refused (read_refusal (line p)) (setup_read_bytes (line p)) p.args.answer.now 15
-    (ap number_of (sym c.enum_told-1.given.1) ∙ number p) (λ e. omega (arith, e)) in record {
+    (ap number_of (sym c.in-Text.is) ∙ number p) (λ e. omega (arith, e)) in record {
       value = told.0;
       answer_after = told.1;
     }

@@ -19,7 +19,7 @@ pub returns-then-w-ne0 : goal.returns-then-w-ne0
 returns-then-w-ne0 c =
     let a = c.args in
     let w = c.write-w in
-    let r = write_refused (setup a.sp a.np a.fp a.sn) a.out.now a.answer.now (omega (arith, c.if-answer-lt8.false)) w.result _ w.ensures.0 w.ensures.1 c.if-w-ne0.true in
+    let r = write_refused (setup a.sp a.np a.fp a.sn) a.out.now a.answer.now (omega (arith, c.if-answer-lt8.false)) w.result _ c.write-w.ensures.value c.write-w.ensures.out_after c.if-w-ne0.true in
     record {
       value = r.0;
       out_after = r.1;
@@ -30,7 +30,7 @@ pub returns : goal.returns
 returns c =
     let a = c.args in
     let v = c.write-w in
-    let r = write_answered (setup a.sp a.np a.fp a.sn) a.out.now a.answer.now (omega (arith, c.if-answer-lt8.false)) v.result _ v.ensures.0 v.ensures.1 c.if-w-ne0.false _ c.put_u64.ensures in
+    let r = write_answered (setup a.sp a.np a.fp a.sn) a.out.now a.answer.now (omega (arith, c.if-answer-lt8.false)) v.result _ c.write-w.ensures.value c.write-w.ensures.out_after c.if-w-ne0.false _ c.put_u64.ensures in
     record {
       value = r.0;
       out_after = r.1;
