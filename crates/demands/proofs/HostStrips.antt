@@ -11,26 +11,46 @@ use lib.Dec.{leb, lit≤}
 use lib.IntN.{ℤ, pos}
 use lib.ListN.{length, get_or, length-map}
 use lib.Signed.{mag}
-use Rattle.rules.specs.Numbers.{Bytes, signed, unsigned, all_bytes, signed_bytes, splice}
+use Rattle.rules.specs.Numbers.{Bytes, Below, signed, numbers, all_bytes, splice}
 use Rattle.rules.specs.Wave.{Wave, size_of, points}
 use Rattle.rules.specs.Rules.{opened}
 use Rattle.rules.specs.Points.{sample}
 use borrow.Author.Tests.{leb-true}
 use Rattle.rules.proofs.Tests.{or_else_none}
-use Rattle.rules.proofs.Twos.{unsigned-below, read_back}
 use Rattle.rules.proofs.Headers.{SameAnswers}
 use Rattle.rules.proofs.Opened.{good-opened}
 use Rattle.columns.specs.Columns.{lesser, greater, least, greatest, run, pairs}
 use Rattle.strips.specs.Strips.{Strip, strip_of, halved, strip_refusal}
+use Rattle.strips.specs.Answers.{unsigned, signed_bytes}
+use Rattle.strips.proofs.Twos.{unsigned-below, read_back}
 use Rattle.strips.proofs.Strips.{accepted, strip-count, strip-least, strip-greatest, strip-halved, half_accepted, points-most, strip_typed}
 use Rattle.strips.proofs.Calls.{same-refusal}
 use Rattle.tessarquin.specs.Calls.{or_room, left_by, least_bytes, greatest_bytes, strip_answer, strip_number, least_left, greatest_left, strip_answer_left}
 use Rattle.tessarquin.proofs.Slices.{number_enough, own_answered}
 use Rattle.tessarquin.proofs.Stripping.{answer-length}
-use Rattle.tessarquin.proofs.Writing.{three_read}
+use Rattle.tessarquin.proofs.Writing.{numbers-read, three_read}
 use Rattle.tessarquin.proofs.Learnt.{StripCall}
 use Rattle.tessarquin.proofs.Places.{first_in, second_in, third_in}
-use Rattle.demands.proofs.Signs.{signed_in, signed-read}
+
+-- the first w signed numbers in a slice of bytes
+abbrev pub signed_in : ℕ → List ℕ → List ℤ
+signed_in w left = map (signed 8) (numbers 0 8 w left)
+
+-- numbers that fit eight bytes with their sign are read back
+abbrev Fits : List ℤ → Type 0
+Fits zs = (q : ℕ) → q < length zs → mag (get_or zs q (pos 0)) < 2 ^ 63
+
+below : (zs : List ℤ) → Fits zs → Below (256 ^ 8) (map (unsigned 8) zs)
+below [] f = tt
+below (z ∷ zs) f = (unsigned-below 8 z (omega arith) (f 0 (omega arith)), below zs (λ q h. f (suc q) (omega arith)))
+
+same : (zs : List ℤ) → Fits zs → map (signed 8) (map (unsigned 8) zs) ≡ zs
+same [] f = refl
+same (z ∷ zs) f = ap₂ {C = List ℤ} (λ x xs. x ∷ xs) (read_back 8 z (omega arith) (f 0 (omega arith))) (same zs (λ q h. f (suc q) (omega arith)))
+
+read : (zs : List ℤ) (w : ℕ) (slice : List ℕ) → length zs ≡ w → Fits zs → signed_in w (splice slice 0 (signed_bytes zs)) ≡ zs
+read zs w slice e f =
+    ap (λ (k : ℕ). signed_in k (splice slice 0 (signed_bytes zs))) (sym (length-map zs (unsigned 8) ∙ e)) ∙ ap (map (signed 8)) (numbers-read (map (unsigned 8) zs) slice (below zs f)) ∙ same zs f
 
 module _ (s : List ℕ) (b : Bytes s) (a n w : ℕ) (low high answer : List ℕ) (m : ℕ) (x u p : List ℕ) (call : StripCall s a n w low high answer m x u p) (z : m ≡ 0) where
   abbrev drawn : Strip
@@ -65,16 +85,22 @@ module _ (s : List ℕ) (b : Bytes s) (a n w : ℕ) (low high answer : List ℕ)
       let t = strip_typed s a n w (length low / 8) (length high / 8) strip-accepts b in
       let c = strip-count s a n w (length low / 8) (length high / 8) strip-accepts in
       let most = points-most s a n w (length low / 8) (length high / 8) strip-accepts b in
-      let size : ℕ = size_of (opened s).head in
-      let narrow : size ≤ 2 = omega (arith, (good-opened s b (accepted s a n w (length low / 8) (length high / 8) strip-accepts)).kind) in
       let r = three_read (unsigned 8 drawn.sum) drawn.marks drawn.peak answer (unsigned-below 8 drawn.sum (omega arith) t.sum, (omega (arith, t.marks, most), (omega (arith, t.peak, most), tt))) in
       record {
-        leasts = ap (signed_in w) left.0 ∙ signed-read size drawn.leasts w low narrow c.0 (λ q h. t.leasts q (subst (λ (k : ℕ). q < k) c.0 h));
-        greatests = ap (signed_in w) left.1 ∙ signed-read size drawn.greatests w high narrow c.1 (λ q h. t.greatests q (subst (λ (k : ℕ). q < k) c.1 h));
+        leasts = ap (signed_in w) left.0 ∙ read drawn.leasts w low c.0 (λ q h. wide drawn.leasts q (t.leasts q (subst (λ (k : ℕ). q < k) c.0 h)));
+        greatests = ap (signed_in w) left.1 ∙ read drawn.greatests w high c.1 (λ q h. wide drawn.greatests q (t.greatests q (subst (λ (k : ℕ). q < k) c.1 h)));
         sum = ap (λ (l : List ℕ). signed 8 (first_in l)) answered.1 ∙ ap (signed 8) r.0 ∙ read_back 8 drawn.sum (omega arith) t.sum;
         marks = ap second_in answered.1 ∙ r.1;
         peak = ap third_in answered.1 ∙ r.2;
       }
+    where
+      half : (k : ℕ) → k ≤ 1 → 256 ^ (k + 1) / 2 ≤ 2 ^ 63
+      half zero h = lit≤ tt
+      half (suc zero) h = lit≤ tt
+      half (suc (suc k)) h = absurd (omega arith)
+
+      wide : (zs : List ℤ) (q : ℕ) → mag (get_or zs q (pos 0)) < 256 ^ size_of (opened s).head / 2 → mag (get_or zs q (pos 0)) < 2 ^ 63
+      wide zs q h = lt_of_lt_of_le h (half ((opened s).head 32) (good-opened s b (accepted s a n w (length low / 8) (length high / 8) strip-accepts)).kind)
 
   pub least_of_all : least (signed_in w x) ≡ least (run (sample (opened s) a n) 0 (points (opened s).head))
   least_of_all = ap least strip-read.leasts ∙ strip-least s a n w (length low / 8) (length high / 8) strip-accepts

@@ -9,7 +9,7 @@ use lib.ListN.{length}
 use Rattle.rules.specs.Numbers.{Bytes, unless_refused}
 use contract.Lifetimes.{Lfts}
 use denote.Ref.{Bor, MutBor, at_last as holding}
-use Rattle.rules.specs.Wave.{Wave, points}
+use Rattle.rules.specs.Wave.{Wave, points, starts_of}
 use Rattle.rules.specs.Rules.{first, opened}
 use Rattle.rules.specs.Cut.{or_else}
 use Rattle.rules.specs.Points.{sample}
@@ -20,8 +20,8 @@ use Rattle.block.specs.declared.Opened.{Opened}
 use Rattle.block.proofs.Answers.{number_is}
 use Rattle.points.specs.Steps.{samples_by, Lent}
 use Rattle.points.proofs.Refusals.{points_are}
-use Rattle.points.proofs.Values.{is}
-use Rattle.points.proofs.Fillings.{holds, samples_are}
+use Rattle.points.proofs.Values.{is, sample_is, kind_small}
+use Rattle.points.proofs.Fillings.{each, put_room}
 use Rattle.strips.specs.Strips.{Strip, strip, strip_of, strip_rules, strip_refusal}
 use Rattle.strips.specs.declared.Drawn.{Drawn}
 use Rattle.strips.specs.Answers.{refused_strip, drawn_by, drawn_as, leasts_left, greatests_left, Drawable}
@@ -46,14 +46,23 @@ module _ (s : List ℕ) (b : Bytes s) (o : Opened) (a n w low high : ℕ) (d : D
   counts = (some-columns s a n w low high d.accepts, omega (arith, same_points, most-columns s a n w low high d.accepts), omega (arith, same_points, points-most s a n w low high d.accepts b))
 
   module _ (from : ℕ) (e : from ≡ samples_by o a n) where
-    pub held : Holds s from o.points (o.kind + 1)
-    held = holds s b o a n lent (o.kind + 1) from refl e
+    pub holds : Holds s from o.points (o.kind + 1)
+    holds = record { narrow = (omega arith, omega (arith, kind_small s b o a n 0 lent)); inside = put_room s b o a n lent (o.kind + 1) from refl e }
+
+    abbrev there : ℕ → ℤ
+    there = sample_at o.order (o.kind + 1) s from
+
+    sample_there : (k : ℕ) → k < o.points → sample_at o.order (o.kind + 1) s from k ≡ sample (opened s) a n k
+    unfolding starts_of
+    sample_there k h =
+        let l = each s b o a n lent k h in
+        ap (λ (x : ℕ). sample_at o.order (o.kind + 1) s x k) e ∙ ap (λ (x : Opened). sample_at x.order (x.kind + 1) s (samples_by x a n) k) (is s b o a n k l) ∙ sample_is s b o a n k l
 
     -- the samples where they stand are the segment's
     pub drawn_strip : strip (o.kind + 1) (sample_at o.order (o.kind + 1) s from) o.points w ≡ strip_of (opened s) a n w
     unfolding strip_of
     drawn_strip =
-        strip-same (sample_at o.order (o.kind + 1) s from) (sample (opened s) a n) o.points (samples_are s b o a n lent (o.kind + 1) from refl e) (o.kind + 1) w counts.0
+        strip-same there (sample (opened s) a n) o.points sample_there (o.kind + 1) w counts.0
         ∙ ap₂ {C = Strip} (λ z m. strip z (sample (opened s) a n) m w) (ap (λ (x : Opened). x.kind + 1) (is s b o a n 0 lent)) same_points
 
 -- ---- what is answered and left

@@ -1,4 +1,5 @@
 pub mod Refusals
+pub mod Twos
 pub mod Telling
 pub mod Strips
 pub mod Calls

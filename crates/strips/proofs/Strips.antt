@@ -4,7 +4,7 @@
 -- is accepted too (`half_accepted`), and numbers that fit their types (`strip_typed`).
 use mathlib.Core.Path.{◌≡◌, refl, sym, ap, ap₂, ◌∙◌, subst}
 use Prim.Native.Nat.{ℕ, zero, suc, ◌+◌, ◌-◌, ◌*◌, ◌/◌, ◌%◌, ◌^◌, ◌≤◌, ◌<◌}
-use native.Mathlib.Nat.{lt_of_lt_of_le}
+use native.Mathlib.Nat.{lt_of_lt_of_le, mul-le-mul_left, div-le_self}
 use native.Mathlib.Omega.{arith}
 use mathlib.Core.Bool.{Bool, true, cond, false≢true}
 use mathlib.Core.List.{List, [], ◌++◌, map}
@@ -15,15 +15,16 @@ use lib.IntN.{ℤ, pos}
 use lib.Signed.{le_z, mag}
 use borrow.Author.Tests.{leb-true, le-leb}
 use Rattle.rules.specs.Numbers.{Bytes, equal, up_from}
-use Rattle.rules.specs.Wave.{size_of, points}
+use Rattle.rules.specs.Wave.{size_of, segments, points, array_count}
 use Rattle.rules.specs.Rules.{first, rules, refusal, opened}
 use Rattle.rules.specs.Points.{array, sample, mark_count_of, mark_count, segment_rules, point_refusal}
 use Rattle.rules.proofs.Tests.{Held, first_held, held_first, held_append, held_left, held_right, numbered_append}
-use Rattle.rules.proofs.Opened.{obeys, rules_numbered, good-opened, points-small}
+use Rattle.rules.proofs.Opened.{obeys, rules_numbered, good-opened, sized-opened, length-payload}
 use Rattle.rules.proofs.Thin.{length-up_from, get_or-up_from}
-use Rattle.rules.proofs.Asked.{segment-points, sample_typed}
+use Rattle.rules.proofs.Asked.{signed-fits, raw_below}
 use Rattle.rules.proofs.Marks.{mark_count_le}
 use Rattle.fills.proofs.Marking.{equal_refl, equal-same}
+use Rattle.rules.proofs.Asked.{segment-points}
 use Rattle.points.proofs.Fillings.{map_up}
 use Rattle.crossings.specs.Crossings.{first_from}
 use Rattle.crossings.specs.Answers.{First}
@@ -241,10 +242,17 @@ module _ (s : List ℕ) (a n w low high : ℕ) (e : strip_refusal s a n w low hi
   module _ (b : Bytes s) where
     -- a segment of an accepted block has no more points than a payload has bytes
     pub points-most : points (opened s).head ≤ 16777216
-    points-most = points-small s b accepted
+    points-most =
+        let h : ℕ → ℕ = (opened s).head in
+        let g = good-opened s b accepted in
+        omega (arith, div-le_self (array_count h) (segments h), mul-le-mul_left (array_count h) (wide (h 32)), g.counts.one, g.tile.sum, length-payload s b accepted, (sized-opened s b accepted).most)
+      where
+        wide : (k : ℕ) → 1 ≤ k + 1
+        wide k = omega arith
 
     typed : (k : ℕ) → k < points (opened s).head → mag (sample (opened s) a n k) < 256 ^ size_of (opened s).head / 2
-    typed k l = sample_typed s b a n k (points_asked k l)
+    unfolding sample
+    typed k l = signed-fits (size_of (opened s).head) (get_or (get_or (array a (opened s)) (n - 1) []) k 0) (omega arith) (raw_below s b a n k (points_asked k l))
 
     words : (k : ℕ) → k < points (opened s).head → mag (sample (opened s) a n k) < 2 ^ 15
     words k l = lt_of_lt_of_le (typed k l) (half ((opened s).head 32) (good-opened s b accepted).kind)

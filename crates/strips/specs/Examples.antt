@@ -1,9 +1,9 @@
 -- Worked strips, as one table: what the definitions work out, and what it has to be.
 use Rattle.std.specs.Prelude.{ℕ, List, [], ◌∷◌, ◌++◌, map, ℤ, pos, length, get_or}
-use Rattle.rules.specs.Numbers.{unsigned}
 use Rattle.rules.specs.Rules.{opened}
 use Rattle.rules.specs.Examples.{minus, sequence}
 use Rattle.strips.specs.Strips.{Strip, strip, strip_of, halved, strip_refusal}
+use Rattle.strips.specs.Answers.{unsigned}
 
 -- a strip's numbers in one list
 abbrev pub numbers_of : Strip → List ℤ

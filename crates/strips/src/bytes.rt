@@ -1,10 +1,9 @@
 // A strip for a host in C: each number as eight bytes, two's complement, the high byte first.
 ghost use Rattle.std.specs.Prelude.{◌≡◌, ◌/◌, length};
-ghost use Rattle.rules.specs.Numbers.{signed_bytes};
 ghost use Rattle.rules.specs.Rules.{opened};
 ghost use Rattle.fills.specs.Fills.{over};
 ghost use Rattle.strips.specs.Strips.{strip_of};
-ghost use Rattle.strips.specs.Answers.{drawn_by, Drawable};
+ghost use Rattle.strips.specs.Answers.{drawn_by, signed_bytes, Drawable};
 
 use crate::Drawn;
 use block::Opened;

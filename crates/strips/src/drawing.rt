@@ -1,9 +1,9 @@
 // The columns one after another: the least and the greatest sample of each, as numbers or as bytes, and the tally of all samples.
 ghost use Rattle.std.specs.Prelude.{◌≡◌, ◌*◌, ◌≤◌, length};
-ghost use Rattle.rules.specs.Numbers.{signed_bytes};
 ghost use Rattle.columns.specs.Columns.{lesser, greater, start, columns as columns_of};
 ghost use Rattle.fills.specs.Fills.{Holds, sample_at, over};
 ghost use Rattle.tallies.specs.Tallies.{Seen};
+ghost use Rattle.strips.specs.Answers.{signed_bytes};
 
 use tallies::Tally;
 
@@ -90,8 +90,8 @@ fn put_each(
     while q < columns {
         let b = boundary(count, columns, q + 1);
         t = tallies::column(block, from, a, b, size, order, t);
-        numbers::put_signed(t.least, lows, q * 8);
-        numbers::put_signed(t.greatest, highs, q * 8);
+        crate::signs::put_signed(t.least, lows, q * 8);
+        crate::signs::put_signed(t.greatest, highs, q * 8);
         a = b;
         q += 1;
     }

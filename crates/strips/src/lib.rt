@@ -4,6 +4,7 @@
 
 mod bytes;
 mod drawing;
+mod signs;
 
 ghost use Rattle.std.specs.Prelude.{◌≡◌, List, ℕ, ◌≤◌, length};
 ghost use Rattle.rules.specs.Rules.{opened};
@@ -15,6 +16,7 @@ ghost use Rattle.strips.specs.Answers.{refused_strip, drawn_by, drawn_as, leasts
 
 use block::Opened;
 pub use bytes::put_columns;
+pub use signs::unsigned;
 use tallies::Tally;
 
 // 0, the sum of all samples, how many stand at the rail, and the first point that holds the greatest; or the number of the refusal and zeros.

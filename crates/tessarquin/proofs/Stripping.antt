@@ -8,12 +8,12 @@ use native.Mathlib.Omega.{arith}
 use lib.Dec.{leb, ltb}
 use lib.ListN.{length}
 use borrow.Author.Tests.{ltb-true, ltb-false}
-use Rattle.rules.specs.Numbers.{unsigned, all_bytes, splice}
+use Rattle.rules.specs.Numbers.{all_bytes, splice}
 use Rattle.rules.specs.Rules.{all, opened}
 use Rattle.rules.proofs.Numbers.{length-all_bytes}
 use Rattle.strips.specs.declared.Drawn.{Drawn}
 use Rattle.strips.specs.Strips.{strip_of, strip_refusal}
-use Rattle.strips.specs.Answers.{drawn_by}
+use Rattle.strips.specs.Answers.{drawn_by, unsigned}
 use Rattle.strips.proofs.Refusals.{before_room, strip_rooms, strip_nowhere}
 use Rattle.tessarquin.specs.Calls.{or_room, least_bytes, greatest_bytes, strip_answer, strip_number, least_left, greatest_left, strip_answer_left}
 use Rattle.tessarquin.proofs.Slices.{number_enough, number_without, left_as_it_was, left_written}

@@ -3,13 +3,14 @@ use Rattle.std.specs.Prelude.{ℕ, zero, suc, ◌+◌, ◌/◌, cond, List, [], 
 use Rattle.std.proofs.Math.Option.{Option, none, some}
 use Rattle.std.specs.Float.{binary64}
 use Rattle.std.specs.Float.Ieee.{to_bits}
-use Rattle.rules.specs.Numbers.{unsigned, all_bytes, signed_bytes, up_from, splice}
+use Rattle.rules.specs.Numbers.{all_bytes, up_from, splice}
 use Rattle.rules.specs.Wave.{order_of, segments, points, first_point, sparsing, segment_index, subarray_count, lengths_of, starts_of}
 use Rattle.rules.specs.Rules.{payload_start, refusal, opened}
 use Rattle.rules.specs.Points.{value, time, mark, mark_number, mark_count, point_refusal, walk_refusal}
 use Rattle.rules.specs.Cut.{Setup, or_else, count, cut_bytes, cut_refusal, combined, combined_refusal}
 use Rattle.crossings.specs.Crossings.{crossing, crossing_refusal}
 use Rattle.strips.specs.Strips.{strip_of, strip_refusal}
+use Rattle.strips.specs.Answers.{unsigned, signed_bytes}
 use Rattle.lines.specs.Reader.{read_setup, read_refusal, or_zeros}
 use Rattle.lines.specs.Writer.{setup_line, write_refusal}
 use Rattle.joining.specs.Join.{parts_in, joined_bytes, join_refusal}

@@ -26,7 +26,7 @@ pub fn tessarquin_strip(
     }
     let d = strips::put_columns(block, o, array, segment, columns, least, greatest);
     crate::put_three(
-        numbers::unsigned(d.sum),
+        strips::unsigned(d.sum),
         d.marks as u64,
         d.peak as u64,
         answer,

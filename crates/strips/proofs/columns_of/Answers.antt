@@ -8,7 +8,7 @@ use Rattle.points.proofs.Values.{from-room}
 use Rattle.strips.specs.Strips.{Strip, strip}
 use Rattle.strips.specs.Answers.{drawn_by}
 use Rattle.strips.proofs.Strips.{room}
-use Rattle.strips.proofs.Calls.{lent, counts, held, drawn_strip}
+use Rattle.strips.proofs.Calls.{lent, counts, holds, drawn_strip}
 use borrow.Author.Rules.{rules}
 use Rattle.strips.proofs.columns_of.Goals as goal
 use Rattle.strips.proofs.columns_of.Goals.{After-shared_slice_known-1}
@@ -26,7 +26,7 @@ pub draw-t-requires : goal.draw-t-requires
 draw-t-requires c =
     let a = c.args in
     let r = room a.block.now a.array a.segment a.columns _ _ c.requires.accepts in record {
-      holds = held a.block.now (bytes (goal.at.draw-t-requires c).After-shared_slice_known-1) a.o a.array a.segment a.columns _ _ c.requires c.samples_from-from.result c.samples_from-from.ensures;
+      holds = holds a.block.now (bytes (goal.at.draw-t-requires c).After-shared_slice_known-1) a.o a.array a.segment a.columns _ _ c.requires c.samples_from-from.result c.samples_from-from.ensures;
       le_columns = counts a.block.now (bytes (goal.at.draw-t-requires c).After-shared_slice_known-1) a.o a.array a.segment a.columns _ _ c.requires;
       columns_in_bounds = r;
     }
@@ -35,7 +35,7 @@ pub told-requires : goal.told-requires
 told-requires c =
     let a = c.args in
     let n = counts a.block.now (bytes (goal.at.told-requires c).After-shared_slice_known-1) a.o a.array a.segment a.columns _ _ c.requires in record {
-      holds = held a.block.now (bytes (goal.at.told-requires c).After-shared_slice_known-1) a.o a.array a.segment a.columns _ _ c.requires c.samples_from-from.result c.samples_from-from.ensures;
+      holds = holds a.block.now (bytes (goal.at.told-requires c).After-shared_slice_known-1) a.o a.array a.segment a.columns _ _ c.requires c.samples_from-from.result c.samples_from-from.ensures;
       le_count = (omega (arith, n.0, n.1), n.2);
       seen = c.draw-t.ensures.seen;
     }

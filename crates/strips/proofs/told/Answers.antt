@@ -47,19 +47,22 @@ sum c =
     let a = c.args in
     sym (sum_is (samples (goal.at.After-struct_known-1 c).Start) (words (goal.at.After-struct_known-1 c).After-shared_slice_known-1) a.count c.requires.le_count.1 a.t.heights c.requires.seen.heights_are)
 
-pub overflow_sub-result : goal.overflow_sub-result
+-- it fits 64 bits
+sum_room : (c : After-struct_known-1) → SFits w64 (to_z w64 c.args.t.heights -ℤ to_z w64 (c.args.count * 32768))
 unfolding strip
-overflow_sub-result c =
-    subst (SFits w64) (sum (goal.at.overflow_sub-result c).After-struct_known-1) (sum_fits (samples (goal.at.overflow_sub-result c).Start) c.args.count c.requires.le_count.1 (λ j h. words (goal.at.overflow_sub-result c).After-shared_slice_known-1 j))
+sum_room c =
+    subst (SFits w64) (sum c) (sum_fits (samples (goal.at.After-struct_known-1 c).Start) c.args.count c.requires.le_count.1 (λ j h. words (goal.at.After-struct_known-1 c).After-shared_slice_known-1 j))
+
+pub overflow_sub-result : goal.overflow_sub-result
+overflow_sub-result c = sum_room (goal.at.overflow_sub-result c).After-struct_known-1
 
 pub returns : goal.returns
 unfolding strip
 returns c w =
     let a = c.args in
-    let p = (c.requires.le_count, c.requires.seen) in
     λ i. record {
       refusal = 0;
-      sum = (to_z-of_z w64 _ (sub-t11 c) ∙ sym (sum (goal.at.returns c).After-struct_known-1)) i;
-      marks = p.1.marks_are i;
-      peak = peak_is a.size (samples (goal.at.returns c).Start) (words (goal.at.returns c).After-shared_slice_known-1) a.count p.0.0 a.t p.1 (to_z w16 (of_z w16 a.t.top)) (top (goal.at.returns c).After-struct_told-1) c.first_behind-peak.result c.first_behind-peak.ensures i;
+      sum = (to_z-of_z w64 _ (sum_room (goal.at.returns c).After-struct_known-1) ∙ sym (sum (goal.at.returns c).After-struct_known-1)) i;
+      marks = c.requires.seen.marks_are i;
+      peak = peak_is a.size (samples (goal.at.returns c).Start) (words (goal.at.returns c).After-shared_slice_known-1) a.count c.requires.le_count.0 a.t c.requires.seen (to_z w16 (of_z w16 a.t.top)) (top (goal.at.returns c).After-struct_told-1) c.first_behind-peak.result c.first_behind-peak.ensures i;
     }

@@ -12,7 +12,7 @@ use Rattle.parts.specs.Parts.{rows_of}
 use Rattle.joins.specs.Steps.{table_of, tables_to}
 use Rattle.joins.proofs.Tabled.{start-within, first-within, can_place, row_ends, placed, first-start, next_start, table-room, next_table}
 use Rattle.joins.proofs.writes.write_tables.Goals as goal
-use Rattle.joins.proofs.writes.write_tables.Goals.{After-lengths-1, After-shared_slice_known-1, In-loop-k}
+use Rattle.joins.proofs.writes.write_tables.Goals.{After-shared_slice_known-1, In-loop-k}
 
 bytes : (c : After-shared_slice_known-1) → Bytes c.args.parts.now
 bytes c = below-index 256 c.args.parts.now (λ i h. (c.type_inv.parts i).fits)
@@ -37,16 +37,16 @@ overflow_sub-long c =
     start-within a.parts.now (bytes (goal.at.overflow_sub-long c).After-shared_slice_known-1) a.lead a.count a.end c.requires.gathered
 
 -- the first table starts inside the payload
-inside : (c : After-lengths-1) → let a = c.args in get_or a.lead.lengths 0 0 + get_or a.lead.lengths 1 0 + get_or a.lead.lengths 2 0 ≤ a.end
+inside : (c : After-shared_slice_known-1) → let a = c.args in get_or a.lead.lengths 0 0 + get_or a.lead.lengths 1 0 + get_or a.lead.lengths 2 0 ≤ a.end
 inside c =
     let a = c.args in
-    omega (arith, first-start a.parts.now (bytes (goal.at.After-lengths-1 c).After-shared_slice_known-1) a.lead a.count a.end c.requires.gathered, row_ends a.parts.now (bytes (goal.at.After-lengths-1 c).After-shared_slice_known-1) a.lead a.count a.end c.requires.gathered 3 (omega arith))
+    omega (arith, first-start a.parts.now (bytes c) a.lead a.count a.end c.requires.gathered, row_ends a.parts.now (bytes c) a.lead a.count a.end c.requires.gathered 3 (omega arith))
 
 pub overflow_add-from : goal.overflow_add-from
-overflow_add-from c = omega (arith, inside (goal.at.overflow_add-from c).After-lengths-1, c.ranges)
+overflow_add-from c = omega (arith, inside (goal.at.overflow_add-from c).After-shared_slice_known-1, c.ranges)
 
 pub overflow_add-from-2 : goal.overflow_add-from-2
-overflow_add-from-2 c = omega (arith, inside (goal.at.overflow_add-from-2 c).After-lengths-1, c.ranges)
+overflow_add-from-2 c = omega (arith, inside (goal.at.overflow_add-from-2 c).After-shared_slice_known-1, c.ranges)
 
 pub loop-k-init : goal.loop-k-init
 loop-k-init c =

@@ -47,7 +47,7 @@ run_is : (c : After-read-run) → c.read-run.result ≡ run_of (from c) (take (f
 run_is c = c.read-run.ensures ∙ ap (λ (n : ℕ). run_of (from c) (take (from c + n - from c) (value c))) c.at_most_11.ensures
 
 pub overflow_sub-count : goal.overflow_sub-count
-overflow_sub-count c = let r : tie.After-read = c in run-behind (from r) (value r) (room r) (room_is r) r.read.result (run_is r)
+overflow_sub-count c = run-behind (from (goal.at.overflow_sub-count c).After-read-run) (value (goal.at.overflow_sub-count c).After-read-run) (room (goal.at.overflow_sub-count c).After-read-run) (room_is (goal.at.overflow_sub-count c).After-read-run) c.read-run.result (run_is (goal.at.overflow_sub-count c).After-read-run)
 
 -- whether it is a value
 test_is : (c : After-read-run) → tested (from c) c.read-run.result ≡ value? (digits_at (value c))
@@ -55,15 +55,12 @@ test_is c = tested_is (from c) (value c) (room c) (room_is c) c.read-run.result 
 
 pub returns-then-not-count-run : goal.returns-then-not-count-run
 returns-then-not-count-run c =
-    let r : tie.After-read = c in
-    let a = r.args in
-    no_value a.line.now a.at (sym (test_is r) ∙ not-true _ c.if-not-count-run.true-raw)
+    let a = c.args in
+    no_value a.line.now a.at (sym (test_is (goal.at.returns-then-not-count-run c).After-read-run) ∙ not-true _ c.if-not-count-run.true-raw)
 
 pub returns : goal.returns
 returns c =
-    let r : tie.After-read = c in
-    let k = r in
-    let a = k.args in
-    let w = run_found (from r) (value r) (room r) (room_is r) r.read.result (run_is r) (not-false _ c.if-not-count-run.false-raw) in
-    (λ i. record { key = k.key-at.ensures i; value = (w i).value; next = (w i).end })
-    ∙ pair_found a.line.now a.at (λ z. r.if2.false (k.key-at.ensures ∙ z)) r.if3.false (sym (test_is r) ∙ not-false _ c.if-not-count-run.false-raw)
+    let a = c.args in
+    let w = run_found (from (goal.at.returns c).After-read-run) (value (goal.at.returns c).After-read-run) (room (goal.at.returns c).After-read-run) (room_is (goal.at.returns c).After-read-run) c.read-run.result (run_is (goal.at.returns c).After-read-run) (not-false _ c.if-not-count-run.false-raw) in
+    (λ i. record { key = c.key_at-key.ensures i; value = (w i).value; next = (w i).end })
+    ∙ pair_found a.line.now a.at (λ z. c.if-key-eq4.false (c.key_at-key.ensures ∙ z)) c.if-line-at-ne44.false (sym (test_is (goal.at.returns c).After-read-run) ∙ not-false _ c.if-not-count-run.false-raw)

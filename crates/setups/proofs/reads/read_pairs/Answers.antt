@@ -31,16 +31,16 @@ returns-then-key-eq4 c =
     step_none (line (goal.at.returns-then-key-eq4 c).After-pair_at-pair) l.at l.left l.values c.pair_at-pair.result c.pair_at-pair.ensures c.loop-left-test.true c.if-key-eq4.true ∙ l.invariant.3
 
 -- there is one: its key is below 4, and it ends within the line
-within : (c : Else-key-eq4) → (c.pair_at-pair.result.key < 4) × (c.pair_at-pair.result.next ≤ length (line (goal.at.Else-key-eq4 c).After-pair_at-pair))
-within c =
+within : (c : After-pair_at-pair) → ¬ (c.pair_at-pair.result.key ≡ 4) → (c.pair_at-pair.result.key < 4) × (c.pair_at-pair.result.next ≤ length (line c))
+within c other =
     let l = c.loop-left in
-    found_within (line (goal.at.Else-key-eq4 c).After-pair_at-pair) l.at l.left l.values c.pair_at-pair.result c.pair_at-pair.ensures c.loop-left-test.true c.if-key-eq4.false l.invariant.1
+    found_within (line c) l.at l.left l.values c.pair_at-pair.result c.pair_at-pair.ensures c.loop-left-test.true other l.invariant.1
 
 pub offset_bounds-values-key : goal.offset_bounds-values-key
-offset_bounds-values-key c = omega (arith, (within (goal.at.offset_bounds-values-key c).Else-key-eq4).0)
+offset_bounds-values-key c = omega (arith, (within (goal.at.offset_bounds-values-key c).After-pair_at-pair c.if-key-eq4.false).0)
 
 pub bounds-values-key : goal.bounds-values-key
-bounds-values-key c = omega (arith, (within (goal.at.bounds-values-key c).Else-key-eq4).0)
+bounds-values-key c = omega (arith, (within (goal.at.bounds-values-key c).After-pair_at-pair c.if-key-eq4.false).0)
 
 pub returns-then-values-key-ne-MISSING : goal.returns-then-values-key-ne-MISSING
 returns-then-values-key-ne-MISSING c =
@@ -48,10 +48,10 @@ returns-then-values-key-ne-MISSING c =
     step_twice (line (goal.at.returns-then-values-key-ne-MISSING c).After-pair_at-pair) l.at l.left l.values c.pair_at-pair.result c.pair_at-pair.ensures c.loop-left-test.true c.if-key-eq4.false c.if-values-key-ne-MISSING.true ∙ l.invariant.3
 
 pub offset_bounds-values-key-in-loop-left : goal.offset_bounds-values-key-in-loop-left
-offset_bounds-values-key-in-loop-left c = omega (arith, (within (goal.at.offset_bounds-values-key-in-loop-left c).Else-key-eq4).0)
+offset_bounds-values-key-in-loop-left c = omega (arith, (within (goal.at.offset_bounds-values-key-in-loop-left c).After-pair_at-pair c.if-key-eq4.false).0)
 
 pub bounds-values-key-in-loop-left : goal.bounds-values-key-in-loop-left
-bounds-values-key-in-loop-left c = omega (arith, (within (goal.at.bounds-values-key-in-loop-left c).Else-key-eq4).0)
+bounds-values-key-in-loop-left c = omega (arith, (within (goal.at.bounds-values-key-in-loop-left c).After-pair_at-pair c.if-key-eq4.false).0)
 
 pub returns-then-next-line : goal.returns-then-next-line
 returns-then-next-line c =
@@ -61,7 +61,7 @@ returns-then-next-line c =
 
 -- something stands behind it
 more : (c : Else-next-line) → c.pair_at-pair.result.next < length (line (goal.at.Else-next-line c).After-pair_at-pair)
-more c = lt_of_le-ne (within (goal.at.Else-next-line c).Else-key-eq4).1 c.if-next-line.false
+more c = lt_of_le-ne (within (goal.at.Else-next-line c).After-pair_at-pair c.if-key-eq4.false).1 c.if-next-line.false
 
 pub bounds-line-next : goal.bounds-line-next
 bounds-line-next c = more (goal.at.bounds-line-next c).Else-next-line

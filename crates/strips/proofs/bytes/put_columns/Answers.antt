@@ -1,14 +1,14 @@
 -- The samples' place, the columns, and what is told of all samples.
 use mathlib.Core.Path.{ap, ◌∙◌}
 use native.Mathlib.Omega.{arith}
-use Rattle.rules.specs.Numbers.{Bytes, signed_bytes}
+use Rattle.rules.specs.Numbers.{Bytes}
 use Rattle.rules.proofs.Numbers.{below-index}
 use Rattle.fills.specs.Fills.{over}
 use Rattle.points.proofs.Values.{from-room}
 use Rattle.strips.specs.Strips.{Strip, strip}
-use Rattle.strips.specs.Answers.{drawn_by}
+use Rattle.strips.specs.Answers.{drawn_by, signed_bytes}
 use Rattle.strips.proofs.Strips.{room}
-use Rattle.strips.proofs.Calls.{lent, counts, held, drawn_strip}
+use Rattle.strips.proofs.Calls.{lent, counts, holds, drawn_strip}
 use borrow.Author.Rules.{rules}
 use Rattle.strips.proofs.bytes.put_columns.Goals as goal
 use Rattle.strips.proofs.bytes.put_columns.Goals.{After-shared_slice_known-1}
@@ -26,7 +26,7 @@ pub put-t-requires : goal.put-t-requires
 put-t-requires c =
     let a = c.args in
     let r = room a.block.now a.array a.segment a.columns _ _ c.requires.accepts in record {
-      holds = held a.block.now (bytes (goal.at.put-t-requires c).After-shared_slice_known-1) a.o a.array a.segment a.columns _ _ c.requires c.samples_from-from.result c.samples_from-from.ensures;
+      holds = holds a.block.now (bytes (goal.at.put-t-requires c).After-shared_slice_known-1) a.o a.array a.segment a.columns _ _ c.requires c.samples_from-from.result c.samples_from-from.ensures;
       le_columns = counts a.block.now (bytes (goal.at.put-t-requires c).After-shared_slice_known-1) a.o a.array a.segment a.columns _ _ c.requires;
       columns_in_bounds = (omega (arith, r.0), omega (arith, r.1));
     }
@@ -35,7 +35,7 @@ pub told-requires : goal.told-requires
 told-requires c =
     let a = c.args in
     let n = counts a.block.now (bytes (goal.at.told-requires c).After-shared_slice_known-1) a.o a.array a.segment a.columns _ _ c.requires in record {
-      holds = held a.block.now (bytes (goal.at.told-requires c).After-shared_slice_known-1) a.o a.array a.segment a.columns _ _ c.requires c.samples_from-from.result c.samples_from-from.ensures;
+      holds = holds a.block.now (bytes (goal.at.told-requires c).After-shared_slice_known-1) a.o a.array a.segment a.columns _ _ c.requires c.samples_from-from.result c.samples_from-from.ensures;
       le_count = (omega (arith, n.0, n.1), n.2);
       seen = c.put-t.ensures.seen;
     }

@@ -9,7 +9,7 @@ use Rattle.fills.specs.Fills.{Holds, sample_at, over}
 use Rattle.fills.proofs.Sampling.{words, any_order}
 use Rattle.tallies.specs.declared.Tally.{Tally}
 use Rattle.tallies.specs.Tallies.{Seen}
-use Rattle.rules.specs.Numbers.{signed_bytes}
+use Rattle.strips.specs.Answers.{signed_bytes}
 use Rattle.strips.proofs.drawing.put.Goals as goal
 use Rattle.strips.proofs.drawing.put.Goals.{Start}
 

@@ -9,7 +9,7 @@ use mir.Syntax.{w16}
 use mir.Val.{SFits, to_z, of_z}
 use mir.ValLaws.{to_z-of_z}
 use borrow.Author.Rules.{rules}
-use Rattle.rules.specs.Numbers.{bytes, unsigned, signed_bytes, splice, up_from}
+use Rattle.rules.specs.Numbers.{bytes, splice, up_from}
 use Rattle.rules.proofs.Numbers.{length-bytes}
 use Rattle.columns.specs.Columns.{lesser, greater, joined, start, column, columns, run}
 use Rattle.columns.proofs.Columns.{start_zero, start-end}
@@ -18,6 +18,7 @@ use Rattle.fills.proofs.Sampling.{fewer}
 use Rattle.fills.proofs.Writes.{over_none, run-one}
 use Rattle.tallies.specs.Tallies.{Seen}
 use Rattle.tallies.proofs.Tallying.{seen_none}
+use Rattle.strips.specs.Answers.{unsigned, signed_bytes}
 use Rattle.strips.proofs.Telling.{ends}
 use Rattle.strips.proofs.drawing.put_each.Invariants.{bytes_of, first}
 use Rattle.strips.proofs.drawing.put_each.Goals as goal
@@ -58,9 +59,8 @@ column-t-requires c =
 roomy : (c : In-loop-q) → (let l = c.loop-q in (l.q < 16777216) × (l.q * 8 + 8 ≤ length l.lows) × (l.q * 8 + 8 ≤ length l.highs))
 roomy c =
     let l = c.loop-q.invariant in
-    let p = (c.requires.le_columns, c.requires.columns_in_bounds) in
     let h = c.loop-q-test.true in
-    (omega (arith, h, p.0), omega (arith, h, p.1.0, l.3), omega (arith, h, p.1.1, l.4))
+    (omega (arith, h, c.requires.le_columns), omega (arith, h, c.requires.columns_in_bounds.0, l.3), omega (arith, h, c.requires.columns_in_bounds.1, l.4))
 
 pub overflow_mul-q-in-loop-q : goal.overflow_mul-q-in-loop-q
 overflow_mul-q-in-loop-q c = let r = roomy (goal.at.overflow_mul-q-in-loop-q c).In-loop-q in omega (arith, r.0)

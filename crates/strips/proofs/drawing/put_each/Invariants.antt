@@ -9,7 +9,7 @@ use mir.Syntax.{w16}
 use mir.Val.{SFits, to_z, of_z}
 use mir.ValLaws.{to_z-of_z}
 use borrow.Author.Rules.{rules}
-use Rattle.rules.specs.Numbers.{bytes, unsigned, signed_bytes, splice, up_from}
+use Rattle.rules.specs.Numbers.{bytes, splice, up_from}
 use Rattle.rules.proofs.Numbers.{length-bytes}
 use Rattle.columns.specs.Columns.{lesser, greater, joined, start, column, columns, run}
 use Rattle.columns.proofs.Columns.{start_zero, start-end}
@@ -18,6 +18,7 @@ use Rattle.fills.proofs.Sampling.{fewer}
 use Rattle.fills.proofs.Writes.{over_none, run-one}
 use Rattle.tallies.specs.Tallies.{Seen}
 use Rattle.tallies.proofs.Tallying.{seen_none}
+use Rattle.strips.specs.Answers.{unsigned, signed_bytes}
 use Rattle.strips.proofs.Telling.{ends}
 use Rattle.strips.proofs.drawing.put_each.Given as goal
 

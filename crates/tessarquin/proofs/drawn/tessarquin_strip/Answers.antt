@@ -5,7 +5,7 @@ use lib.ListN.{length}
 use mir.Syntax.{w64}
 use mir.ValLaws.{to_z-of_z}
 use Rattle.strips.specs.Strips.{strip_refusal}
-use Rattle.rules.specs.Numbers.{unsigned}
+use Rattle.strips.specs.Answers.{unsigned}
 use Rattle.tessarquin.proofs.Stripping.{strip-refused, strip-room, strip_answered}
 use borrow.Author.Rules.{rules}
 use Rattle.tessarquin.proofs.drawn.tessarquin_strip.Goals as goal

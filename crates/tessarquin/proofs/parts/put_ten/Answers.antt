@@ -26,9 +26,6 @@ loop-i-preserved c =
           ∙ number_next a.out.now a.at a.ten i (omega arith) (omega (arith, c.requires)),
     )
 
-pub shape_of-out : goal.shape_of-out
-shape_of-out c = c.loop-i.invariant.1
-
 pub returns : goal.returns
 returns c =
     c.loop-i.invariant.2 ∙ ap {B = List ℕ} (λ l. splice c.args.out.now c.args.at (all_bytes 0 8 l)) (take_all c.loop-i.i c.args.ten (omega arith))
