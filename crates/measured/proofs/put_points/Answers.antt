@@ -17,7 +17,7 @@ use Rattle.fills.proofs.Writes.{over_none, map-one}
 use Rattle.points.specs.Walks.{after_of, place_after}
 use Rattle.measured.proofs.Walked.{all-written, points_are, handed, stopped}
 use Rattle.measured.proofs.put_points.Goals as goal
-use Rattle.measured.proofs.put_points.Goals.{In-Point, After-mark_number, In_default}
+use Rattle.measured.proofs.put_points.Goals.{After-mark_number, After-shared_slice_known-1, In-Point, Start}
 
 -- a step that hands out a point: the next one
 next : (c : In-Point)
@@ -31,16 +31,40 @@ next c =
     let h = handed a.block.now a.array a.segment (below-index 256 a.block.now (λ i h. (c.type_inv.block i).fits)) c.requires.segment_value l.k l.invariant.0 l.place l.invariant.1 c.step_at.result c.step_at.ensures v.value v.time v.mark v.is in
     (h.0, h.1, h.3)
 
-within : (c : In-Point) → c.loop-value.k < length c.loop-value.out
-within c =
+-- the slice is at least as long as there are points
+room : (c : Start) → points (opened c.args.block.now).head ≤ length c.args.out.now
+room c = let a = c.args in omega (arith, points_are a.block.now a.array a.segment a.first c.requires.first_value c.requires.segment_value, c.requires.points_in_bounds)
+
+-- a step that hands out a point
+next : (c : In-Point) → let a = c.args in let l = c.loop-value in
+    (l.k < points (opened a.block.now).head)
+    × (c.in-Point.value ≡ value (opened a.block.now) a.array a.segment l.k)
+    × (c.in-Point.mark ≡ mark (opened a.block.now) a.array a.segment l.k)
+next c =
     let a = c.args in
-    omega (arith, (next c).0, points_are a.block.now a.array a.segment a.first c.requires.first_value c.requires.segment_value, c.requires.points_in_bounds, c.loop-value.auto.out)
+    let l = c.loop-value in
+    let r = c.step_at in
+    let h = handed a.block.now a.array a.segment (bytes (goal.at.In-Point c).After-shared_slice_known-1) c.requires.segment_value l.k l.invariant.0 l.place l.invariant.1 r.result r.ensures _ _ _ c.in-Point.is in
+    (h.0, h.1, h.3)
+
+within : (c : In-Point) → c.loop-value.k < length c.loop-value.out
+within c = omega (arith, (next c).0, room (goal.at.In-Point c).Start, c.loop-value.invariant.2)
+
+pub loop-value-init : goal.loop-value-init
+unfolding up_from mark_count_of
+loop-value-init c = let a = c.args in (omega arith, c.requires.first_value, refl, over_none a.out.now 0, refl)
+
+pub offset_bounds-out-k : goal.offset_bounds-out-k
+offset_bounds-out-k c = omega (arith, within (goal.at.offset_bounds-out-k c).In-Point)
+
+pub bounds-out-k : goal.bounds-out-k
+bounds-out-k c = within (goal.at.bounds-out-k c).In-Point
 
 -- the mark of one point more
 one : (c : After-mark_number)
-    → let a = c.args in
+    → (let a = c.args in
     let w : Wave = opened a.block.now in
-    c.loop-value.marks + c.mark_number.result ≡ mark_count_of (size_of w.head) (map (sample w a.array a.segment) (up_from 0 (c.loop-value.k + 1)))
+    c.loop-value.marks + c.mark_number.result ≡ mark_count_of (size_of w.head) (map (sample w a.array a.segment) (up_from 0 (c.loop-value.k + 1))))
 unfolding mark
 one c =
     let a = c.args in
@@ -49,22 +73,12 @@ one c =
     marks-one (size_of w.head) (sample w a.array a.segment) 0 l.k l.k l.marks c.mark_number.result (sample w a.array a.segment l.k) (omega arith) l.invariant.4 refl
     (c.mark_number.ensures ∙ ap mark_number (next (goal.at.After-mark_number c).In-Point).2)
 
-pub loop-value-init : goal.loop-value-init
-unfolding up_from mark_count_of
-loop-value-init c = (omega arith, c.requires.first_value, refl, over_none c.args.out.now 0, refl)
-
-pub offset_bounds-out-k : goal.offset_bounds-out-k
-offset_bounds-out-k c = omega (arith, within c)
-
-pub bounds-out-k : goal.bounds-out-k
-bounds-out-k c = within c
-
 pub overflow_add-marks : goal.overflow_add-marks
 overflow_add-marks c =
     let a = c.args in
     let w : Wave = opened a.block.now in
     let few = marks_few (size_of w.head) (sample w a.array a.segment) 0 (c.loop-value.k + 1) in
-    omega (arith, one c, few, (next (goal.at.overflow_add-marks c).In-Point).0, points_are a.block.now a.array a.segment a.first c.requires.first_value c.requires.segment_value, c.well_formed)
+    omega (arith, one (goal.at.overflow_add-marks c).After-mark_number, few, (next (goal.at.overflow_add-marks c).In-Point).0, points_are a.block.now a.array a.segment a.first c.requires.first_value c.requires.segment_value, c.well_formed)
 
 pub overflow_add-k : goal.overflow_add-k
 overflow_add-k c = omega (arith, within (goal.at.overflow_add-k c).In-Point)
@@ -76,13 +90,12 @@ pub loop-value-preserved : goal.loop-value-preserved
 loop-value-preserved c =
     let l = c.loop-value in
     let a = c.args in
-    let p = (goal.at.loop-value-preserved c).In-Point in
     let f : ℕ → Float = value (opened a.block.now) a.array a.segment in
-    let n = next p in (
+    let n = next (goal.at.loop-value-preserved c).In-Point in (
       omega (arith, n.0),
       c.after-place.ensures ∙ ap after_of l.invariant.1 ∙ ap (place_after a.block.now a.array a.segment) (sym (add-one l.k)),
       simp length-set l.invariant.2,
-      map-one f a.out.now l.out 0 0 l.k l.k l.k c.in-Point.value n.1 (omega arith) (omega arith) (omega (arith, within p, l.invariant.2)) l.invariant.3,
+      map-one f a.out.now l.out 0 0 l.k l.k l.k c.in-Point.value n.1 (omega arith) (omega arith) (omega (arith, within (goal.at.loop-value-preserved c).In-Point, l.invariant.2)) l.invariant.3,
       one (goal.at.loop-value-preserved c).After-mark_number,
     )
 
@@ -106,4 +119,10 @@ unfolding mark_count
 returns-clause-value c =
     let a = c.args in
     let w : Wave = opened a.block.now in
-    c.loop-value.invariant.4 ∙ ap (λ (k : ℕ). mark_count_of (size_of w.head) (map (sample w a.array a.segment) (up_from 0 k))) (done c)
+    let f : ℕ → Float = value w a.array a.segment in
+    let q = stopped a.block.now a.array a.segment (bytes (goal.at.returns c).After-shared_slice_known-1) c.requires.segment_value l.k l.invariant.0 l.place l.invariant.1 r.result c.step_at.ensures c.in_default.is in
+    let e : l.k ≡ a.first.points = omega (arith, q, points_are a.block.now a.array a.segment a.first c.requires.first_value c.requires.segment_value) in
+    record {
+      out_after = all-written f a.out.now l.out l.k a.first.points e l.invariant.3;
+      value = l.invariant.4 ∙ ap (λ (k : ℕ). mark_count_of (size_of w.head) (map (sample w a.array a.segment) (up_from 0 k))) q;
+    }

@@ -24,12 +24,12 @@ number c = let a = c.args in ap (λ (x : Place). x.refusal) c.place_of-place.ens
 
 module _ (c : Else-place-ne0) where
   taken : walk_refusal c.args.block.now c.args.array c.args.segment ≡ 0
-  taken = sym (number c) ∙ c.if-place-ne0.false
+  taken = sym (number (goal.at.Else-place-ne0 c).After-place_of-place) ∙ c.if-place-ne0.false
 
   long : length (fill_bytes c.args.block.now c.args.array c.args.segment) ≡ c.place_of-place.result.points * 8 + 8
   long =
       let a = c.args in
-      length_fill a.block.now a.array a.segment ∙ ap (λ (x : ℕ). x * 8 + 8) (sym (points_are a.block.now (bytes c) a.array a.segment c.place_of-place.result c.place_of-place.ensures taken))
+      length_fill a.block.now a.array a.segment ∙ ap (λ (x : ℕ). x * 8 + 8) (sym (points_are a.block.now (bytes (goal.at.Else-place-ne0 c).After-shared_slice_known-1) a.array a.segment c.place_of-place.result c.place_of-place.ensures taken))
 
 pub returns-then-place-ne0 : goal.returns-then-place-ne0
 unfolding fill_number fill_left

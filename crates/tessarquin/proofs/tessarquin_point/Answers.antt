@@ -11,7 +11,7 @@ use Rattle.rules.specs.Points.{mark_number, point_refusal}
 use Rattle.rules.proofs.Numbers.{below-index}
 use Rattle.scale.proofs.Finite.{near_no_nan}
 use Rattle.points.specs.declared.answers.Point.{Point}
-use Rattle.points.proofs.Bounds.{point_number, point_answer, answer_near}
+use Rattle.points.proofs.Bounds.{point_number as asked_number, point_answer, answer_near}
 use Rattle.tessarquin.specs.Calls.{point_bytes, point_number, point_left}
 use Rattle.tessarquin.proofs.Slices.{point_length, own_refused, own_short, own_left}
 use borrow.Author.Rules.{rules}
@@ -23,7 +23,7 @@ bytes : (c : After-shared_slice_known-1) → Bytes c.args.block.now
 bytes c = below-index 256 c.args.block.now (λ i h. (c.type_inv.block i).fits)
 
 number : (c : After-point-p) → c.point-p.result.refusal ≡ point_refusal c.args.block.now c.args.array c.args.segment c.args.point
-number c = let a = c.args in ap (λ (x : Point). x.refusal) c.point-p.ensures ∙ point_number a.block.now a.array a.segment a.point
+number c = let a = c.args in ap (λ (x : Point). x.refusal) c.point-p.ensures ∙ asked_number a.block.now a.array a.segment a.point
 
 -- the value and the time of an answered point are no NaN
 clean : (c : Else-p-ne0) → T (not (is_nan c.point-p.result.value)) × T (not (is_nan c.point-p.result.time))

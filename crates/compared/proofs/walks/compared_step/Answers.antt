@@ -14,8 +14,7 @@ use Rattle.compared.proofs.walks.compared_step.Goals as goal
 pub returns-in-Point : goal.returns-in-Point
 returns-in-Point c =
     let a = c.args in
-    let v = c.value-1.given in
-    let e = sym v.1 ∙ c.walked.ensures in record {
+    let e = sym c.in-Point.is ∙ c.walked.ensures in record {
       value = ap (λ (r : Step). length (values_of r)) e;
       out_after = c.put_two.ensures ∙ ap (λ (r : Step). copied (values_of r) a.out.now) e;
       mark_after = c.put_mark.ensures ∙ ap (λ (r : Step). copied (map mark_number (marks_of r)) a.mark.now) e;

@@ -40,22 +40,19 @@ returns-then-place-ne0 c =
     }
 
 -- 13, by the shortest slice
-module _ (c : Else-place-ne0) where
-  abbrev start : Start
-  start = c
+abbrev room : Start → ℕ
+room c = min (min (length c.args.values.now) (length c.args.times.now)) (length c.args.marks.now)
 
-  abbrev room : ℕ
-  room = min (min (length start.args.values.now) (length start.args.times.now)) (length start.args.marks.now)
-
-  short : room < c.place_of-place.result.points → 13 ≡ steps_number start.args.block.now start.args.array start.args.segment start.args.values.now start.args.times.now start.args.marks.now
-  short h =
-      let a = start.args in
-      let p = c.place_of-place in
-      number_short a.block.now a.array a.segment p.result c.place_of-place.ensures (walks a.block.now a.array a.segment p.result c.place_of-place.ensures c.if-place-ne0.false) room h
+short : (c : Else-place-ne0) → room (goal.at.Else-place-ne0 c).Start < c.place_of-place.result.points
+    → 13 ≡ steps_number c.args.block.now c.args.array c.args.segment c.args.values.now c.args.times.now c.args.marks.now
+short c h =
+    let a = c.args in
+    let p = c.place_of-place in
+    number_short a.block.now a.array a.segment p.result p.ensures (walks a.block.now a.array a.segment p.result p.ensures c.if-place-ne0.false) (room (goal.at.Else-place-ne0 c).Start) h
 
 pub returns-then-values-place : goal.returns-then-values-place
 returns-then-values-place c =
-    let a = (start (goal.at.returns-then-values-place c).Else-place-ne0).args in
+    let a = c.args in
     let told = refused a.block.now a.array a.segment 13 a.values.now a.times.now a.marks.now (short (goal.at.returns-then-values-place c).Else-place-ne0 (omega (arith, c.if-values-place.true))) (λ z. omega arith) in record {
       value = told.0;
       values_after = told.1.0;
@@ -65,7 +62,7 @@ returns-then-values-place c =
 
 pub returns-then-times-place : goal.returns-then-times-place
 returns-then-times-place c =
-    let a = (start (goal.at.returns-then-times-place c).Else-place-ne0).args in
+    let a = c.args in
     let told = refused a.block.now a.array a.segment 13 a.values.now a.times.now a.marks.now (short (goal.at.returns-then-times-place c).Else-place-ne0 (omega (arith, c.if-times-place.true))) (λ z. omega arith) in record {
       value = told.0;
       values_after = told.1.0;
@@ -75,7 +72,7 @@ returns-then-times-place c =
 
 pub returns-then-marks-place : goal.returns-then-marks-place
 returns-then-marks-place c =
-    let a = (start (goal.at.returns-then-marks-place c).Else-place-ne0).args in
+    let a = c.args in
     let told = refused a.block.now a.array a.segment 13 a.values.now a.times.now a.marks.now (short (goal.at.returns-then-marks-place c).Else-place-ne0 (omega (arith, c.if-marks-place.true))) (λ z. omega arith) in record {
       value = told.0;
       values_after = told.1.0;
@@ -85,7 +82,7 @@ returns-then-marks-place c =
 
 pub put_steps-requires : goal.put_steps-requires
 put_steps-requires c =
-    let a = (start (goal.at.put_steps-requires c).Else-place-ne0).args in
+    let a = c.args in
     let p = c.place_of-place in
     record {
       first_value = c.place_of-place.ensures;
@@ -96,12 +93,12 @@ put_steps-requires c =
 pub returns : goal.returns
 unfolding values_left times_left marks_left
 returns c =
-    let a = (start (goal.at.returns c).Else-place-ne0).args in
+    let a = c.args in
     let p = c.place_of-place in
     let z = walks a.block.now a.array a.segment p.result c.place_of-place.ensures c.if-place-ne0.false in
     let m = points_are a.block.now a.array a.segment p.result c.place_of-place.ensures z in
-    let fits : p.result.points ≤ room (goal.at.returns c).Else-place-ne0 = omega (arith, c.if-values-place.false, c.if-times-place.false, c.if-marks-place.false) in
-    let e = number_none a.block.now a.array a.segment p.result c.place_of-place.ensures z (room (goal.at.returns c).Else-place-ne0) fits in
+    let fits : p.result.points ≤ room (goal.at.returns c).Start = omega (arith, c.if-values-place.false, c.if-times-place.false, c.if-marks-place.false) in
+    let e = number_none a.block.now a.array a.segment p.result c.place_of-place.ensures z (room (goal.at.returns c).Start) fits in
     let number : ℕ = steps_number a.block.now a.array a.segment a.values.now a.times.now a.marks.now in
     record {
       value = e;

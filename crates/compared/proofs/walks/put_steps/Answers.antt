@@ -18,39 +18,31 @@ use Rattle.compared.specs.Tested.{mark_byte}
 use Rattle.measured.proofs.Walked.{all-written, points_are, handed, stopped}
 use borrow.Author.Rules.{rules}
 use Rattle.compared.proofs.walks.put_steps.Goals as goal
-use Rattle.compared.proofs.walks.put_steps.Goals.{After-shared_slice_known-1, At-loop-value, In-Point-2, Start}
+use Rattle.compared.proofs.walks.put_steps.Goals.{After-shared_slice_known-1, In-Point}
 
 -- every element of a slice is a byte
 bytes : (c : After-shared_slice_known-1) → Bytes c.args.block.now
 bytes c = below-index 256 c.args.block.now (λ i h. (c.type_inv.block i).fits)
 
 -- a step that hands out a point
-module _ (c : In-Point-2) where
-  abbrev start : Start
-  start = c
+next : (c : In-Point) → let a = c.args in let l = c.loop-value in
+    (l.k < points (opened a.block.now).head)
+    × (c.in-Point.value ≡ value (opened a.block.now) a.array a.segment l.k)
+    × (c.in-Point.time ≡ time (opened a.block.now) a.segment l.k)
+    × (c.in-Point.mark ≡ mark (opened a.block.now) a.array a.segment l.k)
+next c =
+    let a = c.args in
+    let l = c.loop-value in
+    let r = c.step_at in
+    handed a.block.now a.array a.segment (bytes (goal.at.In-Point c).After-shared_slice_known-1) c.requires.segment_value l.k l.invariant.0 l.place l.invariant.1 r.result r.ensures _ _ _ c.in-Point.is
 
-  abbrev loop : At-loop-value
-  loop = c
-
-  abbrev wave : Wave
-  wave = opened start.args.block.now
-
-  next : (loop.loop.k < points wave.head)
-      × (c.value-1.given.0.0 ≡ value wave start.args.array start.args.segment loop.loop.k)
-      × (c.value-1.given.0.1.0 ≡ time wave start.args.segment loop.loop.k)
-      × (c.value-1.given.0.1.1.0 ≡ mark wave start.args.array start.args.segment loop.loop.k)
-  next =
-      let a = start.args in
-      let l = loop.loop in
-      let r = c.step_at in
-      let v = c.value-1.given in
-      handed a.block.now a.array a.segment (bytes c) start.pre.1.0 l.k l.inv.0 l.place l.inv.1 r.result c.step_at.ensures v.0.0 v.0.1.0 v.0.1.1.0 v.1
-
-  within : (loop.loop.k < length loop.loop.values) × (loop.loop.k < length loop.loop.times) × (loop.loop.k < length loop.loop.marks)
-  within =
-      let a = start.args in
-      let m = points_are a.block.now a.array a.segment a.first start.pre.0 start.pre.1.0 in
-      (omega (arith, next.0, m, start.pre.1.1.0, loop.loop.inv.2), omega (arith, next.0, m, start.pre.1.1.1, loop.loop.inv.3), omega (arith, next.0, m, start.pre.1.1.2, loop.loop.inv.4))
+within : (c : In-Point) → (c.loop-value.k < length c.loop-value.values) × (c.loop-value.k < length c.loop-value.times) × (c.loop-value.k < length c.loop-value.marks)
+within c =
+    let a = c.args in
+    let l = c.loop-value in
+    let q = c.requires.points_in_bounds in
+    let m = points_are a.block.now a.array a.segment a.first c.requires.first_value c.requires.segment_value in
+    (omega (arith, (next c).0, m, q.0, l.invariant.2), omega (arith, (next c).0, m, q.1, l.invariant.3), omega (arith, (next c).0, m, q.2, l.invariant.4))
 
 pub loop-value-init : goal.loop-value-init
 unfolding up_from
@@ -59,44 +51,44 @@ loop-value-init c =
     (omega arith, c.requires.first_value, refl, refl, refl, over_none a.values.now 0, over_none a.times.now 0, over_none a.marks.now 0)
 
 pub offset_bounds-values-k : goal.offset_bounds-values-k
-offset_bounds-values-k c = omega (arith, (within (goal.at.offset_bounds-values-k c).In-Point-2).0)
+offset_bounds-values-k c = omega (arith, (within (goal.at.offset_bounds-values-k c).In-Point).0)
 
 pub bounds-values-k : goal.bounds-values-k
-bounds-values-k c = (within (goal.at.bounds-values-k c).In-Point-2).0
+bounds-values-k c = (within (goal.at.bounds-values-k c).In-Point).0
 
 pub offset_bounds-times-k : goal.offset_bounds-times-k
-offset_bounds-times-k c = omega (arith, (within (goal.at.offset_bounds-times-k c).In-Point-2).1)
+offset_bounds-times-k c = omega (arith, (within (goal.at.offset_bounds-times-k c).In-Point).1)
 
 pub bounds-times-k : goal.bounds-times-k
-bounds-times-k c = (within (goal.at.bounds-times-k c).In-Point-2).1
+bounds-times-k c = (within (goal.at.bounds-times-k c).In-Point).1
 
 pub overflow_cast-marks : goal.overflow_cast-marks
-overflow_cast-marks c = omega (arith, c.mark_number.ensures, mark_le c.value-1.given.0.1.1.0)
+overflow_cast-marks c = omega (arith, c.mark_number.ensures, mark_le c.in-Point.mark)
 
 pub bounds-marks-k : goal.bounds-marks-k
-bounds-marks-k c = (within (goal.at.bounds-marks-k c).In-Point-2).2
+bounds-marks-k c = (within (goal.at.bounds-marks-k c).In-Point).2
 
 pub overflow_add-k : goal.overflow_add-k
-overflow_add-k c = omega (arith, (within (goal.at.overflow_add-k c).In-Point-2).0)
+overflow_add-k c = omega (arith, (within (goal.at.overflow_add-k c).In-Point).0)
 
 pub loop-value-smaller : goal.loop-value-smaller
-loop-value-smaller c = omega (arith, (next (goal.at.loop-value-smaller c).In-Point-2).0)
+loop-value-smaller c = omega (arith, (next (goal.at.loop-value-smaller c).In-Point).0)
 
 pub loop-value-preserved : goal.loop-value-preserved
 loop-value-preserved c =
-    let l = (loop (goal.at.loop-value-preserved c).In-Point-2).loop in
-    let a = (start (goal.at.loop-value-preserved c).In-Point-2).args in
-    let n = next (goal.at.loop-value-preserved c).In-Point-2 in
-    let w = within (goal.at.loop-value-preserved c).In-Point-2 in
-    let v = c.value-1.given.0 in (
+    let l = c.loop-value in
+    let a = c.args in
+    let n = next (goal.at.loop-value-preserved c).In-Point in
+    let w = within (goal.at.loop-value-preserved c).In-Point in
+    let v = c.in-Point in (
       omega (arith, n.0),
-      c.after-place.ensures ∙ ap after_of l.inv.1 ∙ ap (place_after a.block.now a.array a.segment) (sym (add-one l.k)),
-      simp length-set l.inv.2,
-      simp length-set l.inv.3,
-      simp length-set l.inv.4,
-      map-one (value (wave (goal.at.loop-value-preserved c).In-Point-2) a.array a.segment) a.values.now l.values 0 0 l.k l.k l.k v.0 n.1 (omega arith) (omega arith) (omega (arith, w.0, l.inv.2)) l.inv.5,
-      map-one (time (wave (goal.at.loop-value-preserved c).In-Point-2) a.segment) a.times.now l.times 0 0 l.k l.k l.k v.1.0 n.2 (omega arith) (omega arith) (omega (arith, w.1, l.inv.3)) l.inv.6,
-      map-one (mark_byte (wave (goal.at.loop-value-preserved c).In-Point-2) a.array a.segment) a.marks.now l.marks 0 0 l.k l.k l.k _ (c.mark_number.ensures ∙ ap mark_number n.3) (omega arith) (omega arith) (omega (arith, w.2, l.inv.4)) l.inv.7,
+      c.after-place.ensures ∙ ap after_of l.invariant.1 ∙ ap (place_after a.block.now a.array a.segment) (sym (add-one l.k)),
+      simp length-set l.invariant.2,
+      simp length-set l.invariant.3,
+      simp length-set l.invariant.4,
+      map-one (value (opened a.block.now) a.array a.segment) a.values.now l.values 0 0 l.k l.k l.k v.value n.1 (omega arith) (omega arith) (omega (arith, w.0, l.invariant.2)) l.invariant.5,
+      map-one (time (opened a.block.now) a.segment) a.times.now l.times 0 0 l.k l.k l.k v.time n.2 (omega arith) (omega arith) (omega (arith, w.1, l.invariant.3)) l.invariant.6,
+      map-one (mark_byte (opened a.block.now) a.array a.segment) a.marks.now l.marks 0 0 l.k l.k l.k _ (c.mark_number.ensures ∙ ap mark_number n.3) (omega arith) (omega arith) (omega (arith, w.2, l.invariant.4)) l.invariant.7,
     )
 
 pub shape_of-values : goal.shape_of-values
@@ -114,7 +106,7 @@ returns c =
     let r = c.step_at in
     let a = c.args in
     let w : Wave = opened a.block.now in
-    let q = stopped a.block.now a.array a.segment (bytes (goal.at.returns c).After-shared_slice_known-1) c.requires.segment_value l.k l.invariant.0 l.place l.invariant.1 r.result c.step_at.ensures c.enum_told-1.given.1 in
+    let q = stopped a.block.now a.array a.segment (bytes (goal.at.returns c).After-shared_slice_known-1) c.requires.segment_value l.k l.invariant.0 l.place l.invariant.1 r.result c.step_at.ensures c.in_default.is in
     let e : l.k ≡ a.first.points = omega (arith, q, points_are a.block.now a.array a.segment a.first c.requires.first_value c.requires.segment_value) in record {
       values_after = all-written (value w a.array a.segment) a.values.now l.values l.k a.first.points e l.invariant.5;
       times_after = all-written (time w a.segment) a.times.now l.times l.k a.first.points e l.invariant.6;

@@ -10,9 +10,7 @@ use Rattle.tessarquin.proofs.combining.put_setup.Goals as goal
 
 pub returns : goal.returns
 returns c =
-    let p : tie.After-put-pair = c in
-    let x = p in
-    let a = x.args in
+    let a = c.args in
     c.put_pair-2.ensures
-    ∙ ap {B = List ℕ} (λ u. splice u 16 (all_bytes 0 8 (a.c.fp ∷ a.c.sn ∷ []))) p.put-pair.ensures
-    ∙ numbers_then a.out.now 0 2 (a.c.sp ∷ a.c.np ∷ []) (a.c.fp ∷ a.c.sn ∷ []) refl (omega (arith, x.requires))
+    ∙ ap {B = List ℕ} (λ u. splice u 16 (all_bytes 0 8 (a.c.fp ∷ a.c.sn ∷ []))) c.put_pair.ensures
+    ∙ numbers_then a.out.now 0 2 (a.c.sp ∷ a.c.np ∷ []) (a.c.fp ∷ a.c.sn ∷ []) refl (omega (arith, c.requires))

@@ -11,7 +11,7 @@ use Rattle.tessarquin.specs.Calls.{setup, setup_numbers, combined_bytes, combine
 use Rattle.tessarquin.proofs.Slices.{combined-length, own_refused, own_short, own_left}
 use borrow.Author.Rules.{rules}
 use Rattle.tessarquin.proofs.combining.tessarquin_combined.Goals as goal
-use Rattle.tessarquin.proofs.combining.tessarquin_combined.Goals.{After-combined, In-One-2}
+use Rattle.tessarquin.proofs.combining.tessarquin_combined.Goals.{After-combined, In-One}
 
 -- the two setups that the call was asked for, and its count
 abbrev first : After-combined → Setup
@@ -27,16 +27,14 @@ number : (c : After-combined) → number_of c.combined.result ≡ combined_refus
 number c = combined-number (first c) (second c) (counted c) c.combined.result c.combined.ensures
 
 -- there is a setup: it is the combined one
-taken : (c : In-One-2) → combined_refusal (first (goal.at.In-One-2 c).After-combined) (second (goal.at.In-One-2 c).After-combined) ≡ 0
-taken c = sym (number (goal.at.In-One-2 c).After-combined) ∙ ap number_of c.in-One.is
+taken : (c : In-One) → combined_refusal (first (goal.at.In-One c).After-combined) (second (goal.at.In-One c).After-combined) ≡ 0
+taken c = sym (number (goal.at.In-One c).After-combined) ∙ ap number_of c.in-One.is
 
 pub returns-then-answer-lt32 : goal.returns-then-answer-lt32
 unfolding combined_number combined_left
 returns-then-answer-lt32 c =
-    let x : tie.After-setup = c in
-    let p : tie.After-combined = x in
-    let told = own_short (combined_refusal (first p) (second p)) (combined_bytes (first p) (second p) (counted p)) p.args.answer.now (taken x)
-    (omega (arith, c.if-answer-lt32.true, combined-length (first p) (second p) (counted p))) in record {
+    let told = own_short (combined_refusal (first (goal.at.returns-then-answer-lt32 c).After-combined) (second (goal.at.returns-then-answer-lt32 c).After-combined)) (combined_bytes (first (goal.at.returns-then-answer-lt32 c).After-combined) (second (goal.at.returns-then-answer-lt32 c).After-combined) (counted (goal.at.returns-then-answer-lt32 c).After-combined)) c.args.answer.now (taken (goal.at.returns-then-answer-lt32 c).In-One)
+    (omega (arith, c.if-answer-lt32.true, combined-length (first (goal.at.returns-then-answer-lt32 c).After-combined) (second (goal.at.returns-then-answer-lt32 c).After-combined) (counted (goal.at.returns-then-answer-lt32 c).After-combined))) in record {
       value = told.0;
       answer_after = told.1;
     }
@@ -44,9 +42,8 @@ returns-then-answer-lt32 c =
 pub returns-in-Sparse : goal.returns-in-Sparse
 unfolding combined_number combined_left
 returns-in-Sparse c =
-    let p : tie.After-combined = c in
-    let told = own_refused (combined_refusal (first p) (second p)) (combined_bytes (first p) (second p) (counted p)) p.args.answer.now 12
-    (ap number_of (sym c.in-Sparse.is) ∙ number p) (λ e. omega (arith, e)) in record {
+    let told = own_refused (combined_refusal (first (goal.at.returns-in-Sparse c).After-combined) (second (goal.at.returns-in-Sparse c).After-combined)) (combined_bytes (first (goal.at.returns-in-Sparse c).After-combined) (second (goal.at.returns-in-Sparse c).After-combined) (counted (goal.at.returns-in-Sparse c).After-combined)) c.args.answer.now 12
+    (ap number_of (sym c.in-Sparse.is) ∙ number (goal.at.returns-in-Sparse c).After-combined) (λ e. omega (arith, e)) in record {
       value = told.0;
       answer_after = told.1;
     }
@@ -54,13 +51,10 @@ returns-in-Sparse c =
 pub returns-else-answer-lt32 : goal.returns-else-answer-lt32
 unfolding combined_number combined_left
 returns-else-answer-lt32 c =
-    let e : tie.Else1 = c in
-    let x : tie.After-setup = e in
-    let p : tie.After-combined = x in
-    let answer : List ℕ = p.args.answer.now in
-    let same : setup_in p.combined.result ≡ combined (first p) (second p) (counted p) = combined-setup (first p) (second p) (counted p) p.combined.result p.combined.ensures (taken x) in
-    let r = own_left (combined_refusal (first p) (second p)) (combined_bytes (first p) (second p) (counted p)) answer (taken x)
-    (omega (arith, e.if1.false, combined-length (first p) (second p) (counted p))) in record {
+    let answer : List ℕ = c.args.answer.now in
+    let same : setup_in c.combined.result ≡ combined (first (goal.at.returns-else-answer-lt32 c).After-combined) (second (goal.at.returns-else-answer-lt32 c).After-combined) (counted (goal.at.returns-else-answer-lt32 c).After-combined) = combined-setup (first (goal.at.returns-else-answer-lt32 c).After-combined) (second (goal.at.returns-else-answer-lt32 c).After-combined) (counted (goal.at.returns-else-answer-lt32 c).After-combined) c.combined.result c.combined.ensures (taken (goal.at.returns-else-answer-lt32 c).In-One) in
+    let r = own_left (combined_refusal (first (goal.at.returns-else-answer-lt32 c).After-combined) (second (goal.at.returns-else-answer-lt32 c).After-combined)) (combined_bytes (first (goal.at.returns-else-answer-lt32 c).After-combined) (second (goal.at.returns-else-answer-lt32 c).After-combined) (counted (goal.at.returns-else-answer-lt32 c).After-combined)) answer (taken (goal.at.returns-else-answer-lt32 c).In-One)
+    (omega (arith, c.if-answer-lt32.false, combined-length (first (goal.at.returns-else-answer-lt32 c).After-combined) (second (goal.at.returns-else-answer-lt32 c).After-combined) (counted (goal.at.returns-else-answer-lt32 c).After-combined))) in record {
       value = r.0;
-      answer_after = c.put_setup.ensures ∙ ap (λ (o : Setup). splice answer 0 (all_bytes 0 8 (setup_numbers o))) (ap setup_in (sym x.setup.given.1) ∙ same) ∙ r.1;
+      answer_after = c.put_setup.ensures ∙ ap (λ (o : Setup). splice answer 0 (all_bytes 0 8 (setup_numbers o))) (ap setup_in (sym c.in-One.is) ∙ same) ∙ r.1;
     }

@@ -13,7 +13,7 @@ use Rattle.tessarquin.proofs.Slices.{own_refused, own_short, own_left}
 use Rattle.tessarquin.proofs.Typing.{read_length}
 use borrow.Author.Rules.{rules}
 use Rattle.tessarquin.proofs.typed.tessarquin_setup_read.Goals as goal
-use Rattle.tessarquin.proofs.typed.tessarquin_setup_read.Goals.{After-read, In-Taken-2}
+use Rattle.tessarquin.proofs.typed.tessarquin_setup_read.Goals.{After-read, In-Taken}
 
 -- the line that was lent
 abbrev line : After-read → List ℕ
@@ -23,15 +23,13 @@ number : (c : After-read) → number_of c.read.result ≡ read_refusal (line c)
 number c = read_number (line c) c.read.result c.read.ensures
 
 -- there is a setup: it is the line's
-taken : (c : In-Taken-2) → read_refusal (line (goal.at.In-Taken-2 c).After-read) ≡ 0
-taken c = sym (number (goal.at.In-Taken-2 c).After-read) ∙ ap number_of c.in-Taken.is
+taken : (c : In-Taken) → read_refusal (line (goal.at.In-Taken c).After-read) ≡ 0
+taken c = sym (number (goal.at.In-Taken c).After-read) ∙ ap number_of c.in-Taken.is
 
 pub returns-then-answer-lt32 : goal.returns-then-answer-lt32
 unfolding setup_read_number setup_read_left
 returns-then-answer-lt32 c =
-    let x : tie.After-setup = c in
-    let p : tie.After-read = x in
-    let told = own_short (read_refusal (line p)) (setup_read_bytes (line p)) p.args.answer.now (taken x) (omega (arith, c.if-answer-lt32.true, read_length (line p))) in record {
+    let told = own_short (read_refusal (line (goal.at.returns-then-answer-lt32 c).After-read)) (setup_read_bytes (line (goal.at.returns-then-answer-lt32 c).After-read)) c.args.answer.now (taken (goal.at.returns-then-answer-lt32 c).In-Taken) (omega (arith, c.if-answer-lt32.true, read_length (line (goal.at.returns-then-answer-lt32 c).After-read))) in record {
       value = told.0;
       answer_after = told.1;
     }
@@ -39,9 +37,8 @@ returns-then-answer-lt32 c =
 pub returns-in-Text : goal.returns-in-Text
 unfolding setup_read_number setup_read_left
 returns-in-Text c =
-    let p : tie.After-read = c in
-    let told = own_refused (read_refusal (line p)) (setup_read_bytes (line p)) p.args.answer.now 15
-    (ap number_of (sym c.in-Text.is) ∙ number p) (λ e. omega (arith, e)) in record {
+    let told = own_refused (read_refusal (line (goal.at.returns-in-Text c).After-read)) (setup_read_bytes (line (goal.at.returns-in-Text c).After-read)) c.args.answer.now 15
+    (ap number_of (sym c.in-Text.is) ∙ number (goal.at.returns-in-Text c).After-read) (λ e. omega (arith, e)) in record {
       value = told.0;
       answer_after = told.1;
     }
@@ -49,12 +46,9 @@ returns-in-Text c =
 pub returns-else-answer-lt32 : goal.returns-else-answer-lt32
 unfolding setup_read_number setup_read_left
 returns-else-answer-lt32 c =
-    let e : tie.Else1 = c in
-    let x : tie.After-setup = e in
-    let p : tie.After-read = x in
-    let answer : List ℕ = p.args.answer.now in
-    let same : setup_in p.read.result ≡ or_zeros (read_setup (line p)) = read-setup (line p) p.read.result p.read.ensures in
-    let r = own_left (read_refusal (line p)) (setup_read_bytes (line p)) answer (taken x) (omega (arith, e.if1.false, read_length (line p))) in record {
+    let answer : List ℕ = c.args.answer.now in
+    let same : setup_in c.read.result ≡ or_zeros (read_setup (line (goal.at.returns-else-answer-lt32 c).After-read)) = read-setup (line (goal.at.returns-else-answer-lt32 c).After-read) c.read.result c.read.ensures in
+    let r = own_left (read_refusal (line (goal.at.returns-else-answer-lt32 c).After-read)) (setup_read_bytes (line (goal.at.returns-else-answer-lt32 c).After-read)) answer (taken (goal.at.returns-else-answer-lt32 c).In-Taken) (omega (arith, c.if-answer-lt32.false, read_length (line (goal.at.returns-else-answer-lt32 c).After-read))) in record {
       value = r.0;
-      answer_after = c.put_setup.ensures ∙ ap (λ (o : Setup). splice answer 0 (all_bytes 0 8 (setup_numbers o))) (ap setup_in (sym x.setup.given.1) ∙ same) ∙ r.1;
+      answer_after = c.put_setup.ensures ∙ ap (λ (o : Setup). splice answer 0 (all_bytes 0 8 (setup_numbers o))) (ap setup_in (sym c.in-Taken.is) ∙ same) ∙ r.1;
     }
