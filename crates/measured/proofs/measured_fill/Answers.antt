@@ -1,6 +1,7 @@
 -- The fill's answer, as one number.
 use mathlib.Core.Path.{ap, ◌∙◌}
 use Rattle.measured.specs.Measured.{told_of}
+use borrow.Author.Rules.{rules}
 use Rattle.measured.proofs.measured_fill.Goals as goal
 
 pub returns : goal.returns

@@ -5,6 +5,7 @@ use lib.ListN.{length}
 use Rattle.points.proofs.Fillings.{fill_is, fill_refused}
 use Rattle.measured.specs.Measured.{told_of}
 use Rattle.measured.proofs.Walked.{number-refused, walks, points_are, number_short, number_none}
+use borrow.Author.Rules.{rules}
 use Rattle.measured.proofs.measured_walk.Goals as goal
 
 pub returns-then-place-ne0 : goal.returns-then-place-ne0

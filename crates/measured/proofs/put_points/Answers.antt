@@ -1,35 +1,29 @@
 -- Each turn writes the value of the next point and counts its mark; the walk is done after the last.
 use mathlib.Core.Path.{◌≡◌, refl, sym, ap, ◌∙◌}
 use mathlib.Core.List.{map}
-use Prim.Native.Nat.{ℕ, ◌+◌, ◌<◌}
+use Prim.Native.Nat.{ℕ, ◌+◌, ◌-◌, ◌≤◌, ◌<◌}
 use native.Mathlib.Numerals.{add-one}
 use native.Mathlib.Omega.{arith}
 use lib.Ieee.{Float}
 use lib.ListN.{length, length-set}
-use Rattle.rules.specs.Numbers.{up_from}
+use Rattle.rules.specs.Numbers.{Bytes, up_from}
 use Rattle.rules.specs.Wave.{Wave, size_of, points}
 use Rattle.rules.specs.Rules.{opened}
 use Rattle.rules.specs.Points.{sample, value, mark, mark_number, mark_count_of, mark_count}
 use Rattle.rules.proofs.Numbers.{below-index}
+use Rattle.fills.specs.Fills.{over}
 use Rattle.rules.proofs.Marks.{marks_few}
 use Rattle.fills.proofs.Marking.{marks-one}
 use Rattle.fills.proofs.Writes.{over_none, map-one}
 use Rattle.points.specs.Walks.{after_of, place_after}
 use Rattle.measured.proofs.Walked.{all-written, points_are, handed, stopped}
+use borrow.Author.Rules.{rules}
 use Rattle.measured.proofs.put_points.Goals as goal
 use Rattle.measured.proofs.put_points.Goals.{After-mark_number, After-shared_slice_known-1, In-Point, Start}
 
--- a step that hands out a point: the next one
-next : (c : In-Point)
-    → let a = c.args in
-    let l = c.loop-value in
-    (l.k < points (opened a.block.now).head) × (c.in-Point.value ≡ value (opened a.block.now) a.array a.segment l.k) × (c.in-Point.mark ≡ mark (opened a.block.now) a.array a.segment l.k)
-next c =
-    let a = c.args in
-    let l = c.loop-value in
-    let v = c.in-Point in
-    let h = handed a.block.now a.array a.segment (below-index 256 a.block.now (λ i h. (c.type_inv.block i).fits)) c.requires.segment_value l.k l.invariant.0 l.place l.invariant.1 c.step_at.result c.step_at.ensures v.value v.time v.mark v.is in
-    (h.0, h.1, h.3)
+-- every element of a slice is a byte
+bytes : (c : After-shared_slice_known-1) → Bytes c.args.block.now
+bytes c = below-index 256 c.args.block.now (λ i h. (c.type_inv.block i).fits)
 
 -- the slice is at least as long as there are points
 room : (c : Start) → points (opened c.args.block.now).head ≤ length c.args.out.now
@@ -99,24 +93,14 @@ loop-value-preserved c =
       one (goal.at.loop-value-preserved c).After-mark_number,
     )
 
--- a walk that is done has handed out every point
-done : (c : In_default) → c.loop-value.k ≡ points (opened c.args.block.now).head
-done c =
-    let a = c.args in
-    let l = c.loop-value in
-    stopped a.block.now a.array a.segment (below-index 256 a.block.now (λ i h. (c.type_inv.block i).fits)) c.requires.segment_value l.k l.invariant.0 l.place l.invariant.1 c.step_at.result c.step_at.ensures c.in_default.is
+pub shape_of-out : goal.shape_of-out
+shape_of-out c = c.loop-value.invariant.2
 
-pub returns-clause-out_after : goal.returns-clause-out_after
-returns-clause-out_after c =
-    let a = c.args in
-    let l = c.loop-value in
-    let f : ℕ → Float = value (opened a.block.now) a.array a.segment in
-    let e : l.k ≡ a.first.points = omega (arith, done c, points_are a.block.now a.array a.segment a.first c.requires.first_value c.requires.segment_value) in
-    all-written f a.out.now l.out l.k a.first.points e l.invariant.3
-
-pub returns-clause-value : goal.returns-clause-value
+pub returns : goal.returns
 unfolding mark_count
-returns-clause-value c =
+returns c =
+    let l = c.loop-value in
+    let r = c.step_at in
     let a = c.args in
     let w : Wave = opened a.block.now in
     let f : ℕ → Float = value w a.array a.segment in
