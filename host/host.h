@@ -175,7 +175,7 @@ int not_finite(FILE *to, const char *name, double x);
 
 /* What was asked of a block, where something was. */
 struct asked {
-    uint32_t array, segment, point, sp, rate;
+    uint32_t array, segment, point, sp;
     double level;
 };
 
@@ -242,16 +242,10 @@ void found_in_line(FILE *to, const uint8_t *line, size_t length);
 /* The one line of a setup with all four pairs in their order. The last answer stays. */
 const char *normal_line(struct setup setup);
 
-/* ---- rate.c: the rate of points */
-
-/* How many hertz points have that stand `interval` seconds times S apart: the whole number that was meant, or 0 where there is
-   none from 1 to TESSARQUIN_SOUND_RATE_MOST. */
-uint32_t whole_rate(float interval, uint32_t sparsing);
-
 /* ---- help.c: how the program is called, in words */
 extern const char help[];
 
-/* ---- show.c, rail.c, points.c, cross.c, join.c, combined.c, narrow.c, sound.c: the commands */
+/* ---- show.c, rail.c, points.c, cross.c, join.c, combined.c, narrow.c: the commands */
 
 /* Numbers that were worked out have so many digits. */
 void show(const char *name, int digits);
@@ -282,15 +276,6 @@ void print_combined(const struct made *cuts, size_t count);
 
 /* The words of a file as bytes, to `to`. */
 void narrow(const char *name, const char *to, int replace);
-
-/* What is heard of a file: a segment, at this rate in hertz where one is given, else at that of its points. */
-struct heard {
-    uint32_t array, segment, rate;
-    int given;
-};
-
-/* A sound file to `to`. */
-void sound(const char *name, const char *to, int replace, struct heard heard);
 
 /* ---- words.c: texts and whole numbers for a person */
 

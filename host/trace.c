@@ -17,13 +17,12 @@ static int is(const char *word, const char *other)
 
 /* ---- the words of a command */
 
-enum { CSV = 1, DIGITS = 2, FORCE = 4, CHOICE = 8, VIEW = 16, RATE = 32 };
+enum { CSV = 1, DIGITS = 2, FORCE = 4, VIEW = 8 };
 
 /* What stands behind the command's name. */
 struct line {
     const struct command *command;
-    int count, csv, digits, replace, rated;
-    uint32_t rate;
+    int count, csv, digits, replace;
     struct view view;
     const char **words;
 };
@@ -100,36 +99,29 @@ static int is_option(const char *word)
     return word[0] == '-' && word[1] && !strchr(".0123456789", word[1]) && *end;
 }
 
-/* Whether the option is known to the command and has a number behind it. `next` is the word behind it, or null. */
-static int read_numbered(const struct command *c, struct line *line, const char *option, const char *next)
-{
-    if (is(option, "--digits") && c->options & DIGITS)
-        line->digits = (int)at_most(17, option, next);
-    else if (is(option, "--width") && c->options & VIEW)
-        line->view.width = at_most(WIDTH_MOST, option, next);
-    else if (is(option, "--array") && c->options & CHOICE)
-        line->view.array = any_number(option, next);
-    else if (is(option, "--segment") && c->options & CHOICE)
-        line->view.segment = any_number(option, next), line->view.one = 1;
-    else if (is(option, "--rate") && c->options & RATE)
-        line->rate = any_number(option, next), line->rated = 1;
-    else
-        return 0;
-    return 1;
-}
-
-/* Whether the option is known to the command. `taken` is set where the word behind it belongs to it. */
+/* Whether the option is known to the command. `next` is the word behind it, or null; `taken` is set where it belongs to
+   the option. */
 static int read_option(const struct command *c, struct line *line, const char *option, const char *next, int *taken)
 {
-    *taken = read_numbered(c, line, option, next);
+    int numbered = (is(option, "--digits") && c->options & DIGITS)
+                || ((is(option, "--array") || is(option, "--segment") || is(option, "--width")) && c->options & VIEW);
+    *taken = numbered;
     if (is(option, "--csv") && c->options & CSV)
         line->csv = 1;
     else if (is(option, "-f") && c->options & FORCE)
         line->replace = 1;
     else if (is(option, "--text") && c->options & VIEW)
         line->view.text = 1;
+    else if (!numbered)
+        return 0;
+    else if (is(option, "--digits"))
+        line->digits = (int)at_most(17, option, next);
+    else if (is(option, "--width"))
+        line->view.width = at_most(WIDTH_MOST, option, next);
+    else if (is(option, "--array"))
+        line->view.array = any_number(option, next);
     else
-        return *taken;
+        line->view.segment = any_number(option, next), line->view.one = 1;
     return 1;
 }
 
@@ -243,22 +235,15 @@ static void run_narrow(const struct line *line)
     narrow(line->words[0], line->words[1], line->replace);
 }
 
-static void run_sound(const struct line *line)
-{
-    struct heard heard = {line->view.array, line->view.one ? line->view.segment : 1, line->rate, line->rated};
-    sound(line->words[0], line->words[1], line->replace, heard);
-}
-
 static const struct command commands[] = {
     {"show", "one FILE", 1, 1, DIGITS, run_show},
     {"points", "FILE [ARRAY [SEGMENT]]", 1, 3, CSV | DIGITS, run_points},
     {"cross", "FILE LEVEL [ARRAY [SEGMENT]]", 2, 4, CSV | DIGITS, run_cross},
-    {"draw", "FILE [OUT]", 1, 2, FORCE | CHOICE | VIEW, run_draw},
+    {"draw", "FILE [OUT]", 1, 2, FORCE | VIEW, run_draw},
     {"cut", "FILE OUT SP NP FP SN hi|lo, or FILE OUT LINE hi|lo with a line in quotes, such as \"WFSU SP,4,NP,0,FP,10,SN,0\"", 4, 7, FORCE, run_cut},
     {"join", "OUT FILE..", 2, ANY, FORCE, run_join},
     {"combined", "SP NP FP SN C for each cut", 1, ANY, 0, run_combined},
     {"narrow", "FILE OUT", 2, 2, FORCE, run_narrow},
-    {"sound", "FILE OUT", 2, 2, FORCE | CHOICE | RATE, run_sound},
 };
 
 static void command(int count, char **words)

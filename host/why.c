@@ -44,10 +44,6 @@ static void found_in_question(FILE *to, const struct opened *o, struct asked ask
     case TESSARQUIN_GAIN:
         found_gain(to, float_at(o, TESSARQUIN_AT_VERTICAL_GAIN));
         break;
-    case TESSARQUIN_RIFF:
-        if (asked.rate == 0 || asked.rate > TESSARQUIN_SOUND_RATE_MOST)
-            fprintf(to, "the rate %s Hz was asked for", grouped(asked.rate));
-        break;
     }
 }
 

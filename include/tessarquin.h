@@ -8,7 +8,7 @@
  * starts at byte 2 + d.
  * Whatever stands before the '#' is for the caller to remove.
  *
- * Sixteen calls, each proved to meet its description for every input:
+ * Fourteen calls, each proved to meet its description for every input:
  *
  *     tessarquin_open         is this a block that obeys the template, and what is in it?
  *     tessarquin_layout       where do the descriptor and the other parts stand?
@@ -24,8 +24,6 @@
  *     tessarquin_setup_write  the one normal line of a setup
  *     tessarquin_join         one block of the segments that were fetched one by one, in whatever order they arrived
  *     tessarquin_narrow       a block of half the size, less precise: each sample's high byte, and 256 times the gain
- *     tessarquin_sound_write  a segment's samples as a sound file, which audio editors open
- *     tessarquin_sound_read   the samples of such a file
  *
  * What holds for all of them
  *
@@ -68,12 +66,11 @@ extern "C" {
    one is added. Since 0.2 tessarquin_point answers 24 bytes (16 before), and tessarquin_fill eight bytes behind its M
    values: whoever fills segments back to back leaves room for them. Since 0.3 there is tessarquin_join, with the refusal
    16, since 0.4 tessarquin_combined, since 0.5 tessarquin_narrow, with the refusal 19, since 0.6 tessarquin_crossing,
-   since 0.7 tessarquin_strip, since 0.8 tessarquin_setup_read and tessarquin_setup_write, with the refusal 15, and
-   since 0.9 tessarquin_sound_write and tessarquin_sound_read, with the refusal 21; what was there before is as it was.
-   Header and archive have to be of one version. */
+   since 0.7 tessarquin_strip, and since 0.8 tessarquin_setup_read and tessarquin_setup_write, with the refusal 15; what
+   was there before is as it was. Header and archive have to be of one version. */
 #define TESSARQUIN_VERSION_MAJOR 0
-#define TESSARQUIN_VERSION_MINOR 9
-#define TESSARQUIN_VERSION "0.9"
+#define TESSARQUIN_VERSION_MINOR 8
+#define TESSARQUIN_VERSION "0.8"
 
 /*
  * Why a call is refused, in the order of the checks: the first that applies is the number returned. Each entry is the
@@ -113,8 +110,6 @@ extern "C" {
       "keep the samples as words, or fetch the block again where its gain is damaged")                                 \
     X(TEXT, 15, "the line is not a setup as the oscilloscope takes it, or the slice lent for a line is too short",     \
       "write WFSU SP,4,NP,0,FP,10,SN,0 with the numbers that are wanted, or lend 60 bytes for a line")                 \
-    X(RIFF, 21, "the rate is 0 or above 2,147,483,647, or the file is not RIFF WAVE PCM in the form written here",     \
-      "give a rate from 1 to 2,147,483,647 hertz, or save the file as PCM, one channel, of 8 or 16 bits")              \
     X(ROOM, 13, "a slice lent for the answer is too short",                                                            \
       "lend as many bytes as the call says that its answer takes")
 
@@ -624,102 +619,6 @@ uint32_t tessarquin_narrow(const uint8_t *block, size_t block_len,
                            uint8_t *out, size_t out_len,
                            uint8_t *answer, size_t answer_len);
 
-/*
- * ---- sound files
- *
- * RIFF WAVE PCM with one channel, as every audio editor opens it. 44 bytes stand before the samples; their numbers have
- * the low byte first:
- *
- *      0  "RIFF"
- *      4  how many bytes stand behind this number: 36, the samples, and the pad
- *      8  "WAVE"
- *     12  "fmt "
- *     16  16, the bytes of this chunk
- *     20  1, which is PCM, in two bytes
- *     22  1, the channels, in two bytes
- *     24  the rate in hertz, from 1 to TESSARQUIN_SOUND_RATE_MOST
- *     28  the rate times the width
- *     32  the width, the bytes of a sample, 1 or 2, in two bytes
- *     34  8 times the width, in two bytes
- *     36  "data"
- *     40  how many bytes the samples have, at least one sample
- *     44  the samples: words with the low byte first, bytes with 128 added, so that -128 is 0 and 127 is 255;
- *         and behind an odd number of bytes one zero byte, the pad
- *
- * It holds the samples and not the values: gain, offset, units and trigger are not in it, and nothing says so in the
- * file. Samples at the rail sound like any other.
- */
-
-/* The highest rate, in hertz. */
-#define TESSARQUIN_SOUND_RATE_MOST 2147483647u
-
-/* The number that tessarquin_sound_write answers. */
-enum tessarquin_sound_write_number {
-    TESSARQUIN_SOUND_WRITE_LENGTH /* the bytes written to out */
-};
-#define TESSARQUIN_SOUND_WRITE_BYTES 8u
-
-/*
- * Writes the samples of a segment of an array as a sound file: refusals 1 to 8, 20, 9, 10, then 21 for a rate of 0 or
- * above TESSARQUIN_SOUND_RATE_MOST, then 13 if out or answer is too short. `segment` counts from 1.
- *
- * The file goes to out; room of block_len is always enough. Its width is that of the block's samples, and neither the
- * byte order of the block nor its header changes a byte of it. The rate is the caller's: what the points have is 1 /
- * (HORIZ_INTERVAL S) hertz, and host/rate.c finds the whole number that this is meant to be. Any other rate plays the
- * same samples faster or slower.
- *
- * tessarquin_sound_read reads the rate, the width and the samples back as they were, so two different segments of one
- * width never have the same file at one rate.
- *
- *     uint8_t sound[TESSARQUIN_SOUND_WRITE_BYTES], *wave = (uint8_t *)malloc(block_len);
- *     if (wave) {
- *         uint32_t refusal = tessarquin_sound_write(block, block_len, 1, 1, 48000, wave, block_len, sound, sizeof sound);
- *         if (refusal == TESSARQUIN_OK)
- *             printf("%u bytes of sound\n", (unsigned)tessarquin_number(sound, TESSARQUIN_SOUND_WRITE_LENGTH));
- *         else
- *             printf("%s\n", tessarquin_text(refusal));
- *         free(wave);
- *     }
- */
-uint32_t tessarquin_sound_write(const uint8_t *block, size_t block_len,
-                                uint32_t array, uint32_t segment, uint32_t rate,
-                                uint8_t *out, size_t out_len,
-                                uint8_t *answer, size_t answer_len);
-
-/* The numbers that tessarquin_sound_read answers. */
-enum tessarquin_sound_read_number {
-    TESSARQUIN_SOUND_READ_RATE,  /* in hertz, from 1 to TESSARQUIN_SOUND_RATE_MOST */
-    TESSARQUIN_SOUND_READ_WIDTH, /* the bytes of a sample in the file, 1 or 2 */
-    TESSARQUIN_SOUND_READ_COUNT  /* n, how many samples there are, at least 1 */
-};
-#define TESSARQUIN_SOUND_READ_BYTES 24u
-
-/*
- * Reads a sound file: refusal 21 where it is not of the form above to the last byte, then 13 if samples or answer is
- * too short. Every number in it is judged, and so is the pad; another chunk, a longer "fmt " chunk, more channels, 24
- * bits or a byte behind the end are refused. A file that is taken is, byte for byte, the one that is written for what is
- * read from it.
- *
- * The n samples go to `samples`, eight bytes each: tessarquin_signed reads them, -128 to 127 of bytes, -32,768 to 32,767
- * of words. Room of 8 (file_len - 44) bytes is always enough, for words half of it.
- *
- *     uint8_t back[TESSARQUIN_SOUND_READ_BYTES], samples[8 * 4];
- *     const uint8_t tone[48] = {'R', 'I', 'F', 'F', 40, 0, 0, 0, 'W', 'A', 'V', 'E', 'f', 'm', 't', ' ',
- *                               16, 0, 0, 0, 1, 0, 1, 0, 64, 31, 0, 0, 64, 31, 0, 0,
- *                               1, 0, 8, 0, 'd', 'a', 't', 'a', 3, 0, 0, 0, 0, 128, 255, 0};
- *     if (tessarquin_sound_read(tone, sizeof tone, samples, sizeof samples, back, sizeof back) == TESSARQUIN_OK) {
- *         printf("%u hertz:", (unsigned)tessarquin_number(back, TESSARQUIN_SOUND_READ_RATE));
- *         for (size_t k = 0; k < tessarquin_number(back, TESSARQUIN_SOUND_READ_COUNT); k++)
- *             printf(" %d", (int)tessarquin_signed(samples, k));
- *         printf("\n");
- *     }
- *
- * prints "8000 hertz: -128 0 127".
- */
-uint32_t tessarquin_sound_read(const uint8_t *file, size_t file_len,
-                               uint8_t *samples, size_t samples_len,
-                               uint8_t *answer, size_t answer_len);
-
 /* ---- answers and refusals, read */
 
 /* Number i of an answer. */
@@ -730,7 +629,7 @@ static inline uint64_t tessarquin_number(const uint8_t *answer, size_t i)
          | (uint64_t)p[4] << 24 | (uint64_t)p[5] << 16 | (uint64_t)p[6] << 8 | (uint64_t)p[7];
 }
 
-/* Number i of an answer, of a strip's leasts or greatests, or of a sound's samples, where it may be below zero. */
+/* Number i of an answer, or of a strip's leasts or greatests, where it may be below zero. */
 static inline int64_t tessarquin_signed(const uint8_t *answer, size_t i)
 {
     return (int64_t)tessarquin_number(answer, i);

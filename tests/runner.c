@@ -8,8 +8,8 @@
  * seven slices. A reply is what the call returned, in eight bytes, and in four which slices have lost the known
  * bytes before them (bit 0 block, 1 fallback, 2 out, 3 answer, 4 marks, 5 least, 6 greatest); then the bytes of
  * the slices again. Floats are lent, and come back, as the bytes that they have in memory; a level is two of
- * the nine numbers, the low half of its bits and the high half. Parts to be joined, the line of a setup and a sound
- * file are lent as the block; the samples of a file go to out.
+ * the nine numbers, the low half of its bits and the high half. Parts to be joined, and the line of a setup, are
+ * lent as the block.
  *
  * Every slice ends where memory that cannot be touched begins, so a call that reads or writes
  * behind a slice ends this program by a signal. */
@@ -28,7 +28,7 @@
 
 enum kind {
     PROBE, OPEN, POINT, FILL, CUT, FLOATS, WALK, STEP, USER_TEXT, LABEL, LAYOUT, TEXT_PLACE, LABEL_PLACE, WALKED_FLOATS,
-    JOIN, COMBINED, NARROW, CROSSING, STRIP, SETUP_READ, SETUP_WRITE, SOUND_WRITE, SOUND_READ
+    JOIN, COMBINED, NARROW, CROSSING, STRIP, SETUP_READ, SETUP_WRITE
 };
 enum { BLOCK, FALLBACK, OUT, ANSWER, MARKS, LEAST, GREATEST, SLICES };
 
@@ -210,10 +210,6 @@ static uint64_t call(enum kind kind, const uint32_t n[NUMBERS], const struct sli
         return tessarquin_join(block, block_len, out, out_len, answer, answer_len);
     case NARROW:
         return tessarquin_narrow(block, block_len, out, out_len, answer, answer_len);
-    case SOUND_WRITE:
-        return tessarquin_sound_write(block, block_len, n[0], n[1], n[2], out, out_len, answer, answer_len);
-    case SOUND_READ:
-        return tessarquin_sound_read(block, block_len, out, out_len, answer, answer_len);
     case LAYOUT:
         return tessarquin_layout(block, block_len, answer, answer_len);
     case TEXT_PLACE:

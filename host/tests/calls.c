@@ -1,8 +1,8 @@
 /*
  * Tests of the calls, each with slices that end at a page that cannot be touched and have known bytes before
  * them; those of the crossing are in crossings.c, those of the strip in strips.c, those of cuts in a row in chains.c, those
- * of the joins in joins.c, those of the narrowing in narrows.c and those of the sound files in sounds.c. Prints one line and
- * ends with 0, or prints what differed and ends with 1.
+ * of the joins in joins.c and those of the narrowing in narrows.c. Prints one line and ends with 0, or prints what differed
+ * and ends with 1.
  */
 #include "slices.h"
 

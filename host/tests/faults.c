@@ -12,8 +12,8 @@
  *     links      a file system with links, but without the rename that replaces nothing
  *     between    both: OUT comes to be on such a file system
  *     swapped    a file stands where a pipe did, just before it is opened
- *     count      tells at the end how many points, fills, crossings, strips, cuts, narrowings and sounds were asked of blocks of
- *                more than 1,000 bytes
+ *     count      tells at the end how many points, fills, crossings, strips, cuts and narrowings were asked of blocks of more
+ *                than 1,000 bytes
  *     uncrossed  a crossing is refused by 9, whatever the array and the level are
  *     undrawn    a strip is refused by 11, whatever the columns are
  *     uncombined two cuts are refused by 12, whatever their numbers are
@@ -21,9 +21,8 @@
  *     unwritten  the line of a setup is refused by 15, though there is room
  *     unjoined   a join is refused by 16, whatever the parts are
  *     unnarrowed a narrowing is refused by 19, whatever the gain is
- *     unsounded  a sound is refused by 21, whatever the rate is
- *     unasked    a crossing, a strip, a join, two cuts, a narrowing, a sound, a line and the line of a setup are refused by 13,
- *                though there is room
+ *     unasked    a crossing, a strip, a join, two cuts, a narrowing, a line and the line of a setup are refused by 13, though
+ *                there is room
  */
 #define _GNU_SOURCE
 #include "tessarquin.h"
@@ -62,8 +61,6 @@ uint32_t __real_tessarquin_join(const uint8_t *parts, size_t parts_len, uint8_t 
                                 size_t answer_len);
 uint32_t __real_tessarquin_narrow(const uint8_t *block, size_t block_len, uint8_t *out, size_t out_len, uint8_t *answer,
                                   size_t answer_len);
-uint32_t __real_tessarquin_sound_write(const uint8_t *block, size_t block_len, uint32_t array, uint32_t segment, uint32_t rate,
-                                       uint8_t *out, size_t out_len, uint8_t *answer, size_t answer_len);
 
 static int fault(const char *word)
 {
@@ -239,15 +236,4 @@ uint32_t __wrap_tessarquin_narrow(const uint8_t *block, size_t block_len, uint8_
     if (fault("unasked"))
         return TESSARQUIN_ROOM;
     return __real_tessarquin_narrow(block, block_len, out, out_len, answer, answer_len);
-}
-
-uint32_t __wrap_tessarquin_sound_write(const uint8_t *block, size_t block_len, uint32_t array, uint32_t segment, uint32_t rate,
-                                       uint8_t *out, size_t out_len, uint8_t *answer, size_t answer_len)
-{
-    ask(block_len);
-    if (fault("unsounded"))
-        return TESSARQUIN_RIFF;
-    if (fault("unasked"))
-        return TESSARQUIN_ROOM;
-    return __real_tessarquin_sound_write(block, block_len, array, segment, rate, out, out_len, answer, answer_len);
 }

@@ -210,22 +210,4 @@ static inline uint32_t narrow(struct slice block, struct slice out, size_t room)
     return refusal;
 }
 
-/* A sound file to a slice, which the caller gives back. */
-static inline uint32_t sound_write(struct slice block, uint32_t array, uint32_t segment, uint32_t rate, struct slice out, size_t room)
-{
-    struct slice answer = lend(room);
-    uint32_t refusal = tessarquin_sound_write(block.bytes, block.length, array, segment, rate, out.bytes, out.length, answer.bytes, room);
-    take(answer, refusal, 1);
-    return refusal;
-}
-
-/* The samples of a sound file to a slice, which the caller gives back. */
-static inline uint32_t sound_read(struct slice file, struct slice samples, size_t room)
-{
-    struct slice answer = lend(room);
-    uint32_t refusal = tessarquin_sound_read(file.bytes, file.length, samples.bytes, samples.length, answer.bytes, room);
-    take(answer, refusal, 3);
-    return refusal;
-}
-
 #endif

@@ -19,8 +19,6 @@ pub struct Calls {
     pub setup_write: fn(u32, u32, u32, u32, &mut [u8], &mut [u8]) -> u32,
     pub join: fn(&[u8], &mut [u8], &mut [u8]) -> u32,
     pub narrow: fn(&[u8], &mut [u8], &mut [u8]) -> u32,
-    pub sound_write: fn(&[u8], u32, u32, u32, &mut [u8], &mut [u8]) -> u32,
-    pub sound_read: fn(&[u8], &mut [u8], &mut [u8]) -> u32,
     pub layout: fn(&[u8], &mut [u8]) -> u32,
     pub text_place: fn(&[u8], &mut [u8]) -> u32,
     pub label_place: fn(&[u8], &[u8], &mut [u8]) -> u32,
@@ -36,8 +34,7 @@ pub struct Calls {
 #[macro_export]
 macro_rules! calls_of {
     ($module:path) => {{
-        use $module::{calls, combined, crossing, join, narrow, places};
-        use $module::{setup, sound, strip, tested};
+        use $module::{calls, combined, crossing, join, narrow, places, setup, strip, tested};
         $crate::calls::Calls {
             open: calls::open,
             point: calls::point,
@@ -50,8 +47,6 @@ macro_rules! calls_of {
             setup_write: setup::write_line,
             join: join::join,
             narrow: narrow::narrow,
-            sound_write: sound::write_file,
-            sound_read: sound::read_file,
             layout: places::layout,
             text_place: places::text_place,
             label_place: places::label_place,
@@ -106,10 +101,6 @@ impl Calls {
             }
             Call::Join => (self.join)(block, out, answer),
             Call::Narrow => (self.narrow)(block, out, answer),
-            Call::SoundWrite { array, segment, rate } => {
-                (self.sound_write)(block, array, segment, rate, out, answer)
-            }
-            Call::SoundRead => (self.sound_read)(block, out, answer),
             Call::Layout => (self.layout)(block, answer),
             Call::TextPlace => (self.text_place)(block, answer),
             Call::LabelPlace { .. } => (self.label_place)(block, fallback, answer),

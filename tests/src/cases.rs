@@ -1,5 +1,4 @@
-//! A case: one block and what is asked of it, or lines, or sound files, fixed by a seed and a case
-//! number.
+//! A case: one block and what is asked of it, or lines, fixed by a seed and a case number.
 
 use crate::chains;
 use crate::compare::{Checker, Difference};
@@ -22,7 +21,6 @@ use crate::results;
 use crate::rooms::request;
 use crate::setups;
 use crate::shape::{any_order, Shape};
-use crate::sounds;
 use crate::strips;
 
 /// One case in so many has a long block.
@@ -57,7 +55,6 @@ pub fn run(checker: &mut Checker, seed: u64, case: u64) -> (String, Result<(), D
             (format!("two faults: {}; {}", a.name, b.name), ask_any(checker, &block, random))
         }
         6 if case % 64 == 22 => setups::run(checker, case / 64, random), // is_setup
-        6 if case % 64 == 54 => sounds::run(checker, case / 64, random), // is_sound
         6 if case % 16 == 14 => {
             ("marks".into(), marks::check(checker, (case / 16) as usize, random))
         }
@@ -80,11 +77,6 @@ pub fn is_join(case: u64) -> bool {
 /// Whether a case asks for setups as lines.
 pub fn is_setup(case: u64) -> bool {
     case % 64 == 22
-}
-
-/// Whether a case asks for sound files.
-pub fn is_sound(case: u64) -> bool {
-    case % 64 == 54
 }
 
 /// Two cuts, one after the other, of a right block.
@@ -195,7 +187,7 @@ fn ask_any(checker: &mut Checker, block: &[u8], random: &mut Random) -> Result<(
     ask_little(checker, block, random)
 }
 
-/// Each C call once but a join, those of lines and the one that reads a sound, and two of the test calls.
+/// Each C call once but a join and those of lines, and two of the test calls.
 fn ask_little(checker: &mut Checker, block: &[u8], random: &mut Random) -> Result<(), Difference> {
     let extent = Extent::of(block);
     let mut calls = extent.c_calls(block, random);
@@ -215,7 +207,6 @@ fn ask_much(checker: &mut Checker, block: &[u8], random: &mut Random) -> Result<
     calls.extend((0..2).map(|_| extent.cut(random)));
     calls.extend((0..2).map(|_| extent.right_cut(random)));
     calls.push(Call::Narrow);
-    calls.extend((0..2).map(|_| extent.sound(random)));
     calls.extend(place_calls(random));
     calls.extend(extent.test_calls(random));
     calls.push(chains::any_combined(random));

@@ -7,7 +7,7 @@ use std::collections::BTreeMap;
 use std::fmt::Display;
 
 /// The refusals that a run must see: all that the calls give.
-const REFUSALS: [u64; 18] = [1, 2, 3, 4, 5, 6, 7, 8, 9, 10, 11, 12, 13, 15, 16, 19, 20, 21];
+const REFUSALS: [u64; 17] = [1, 2, 3, 4, 5, 6, 7, 8, 9, 10, 11, 12, 13, 15, 16, 19, 20];
 
 /// What has been compared so far.
 #[derive(Default)]
@@ -74,21 +74,6 @@ pub struct Tally {
     pub respelled: u64,
     /// Lines that are none with one byte more.
     pub ended_lines: u64,
-    /// Segments that were written as the files of the samples that their blocks were made of.
-    pub known_sounds: u64,
-    /// Files with what they were made of, and those refused for the faults they were made with.
-    pub known_files: u64,
-    pub faulty_files: u64,
-    /// Segments that are read back from what was written, and files that are written again from what
-    /// was read.
-    pub sounds_read_back: u64,
-    pub written_again: u64,
-    /// Segments whose file no other of nearly the same samples has.
-    pub different_files: u64,
-    /// Segments that have the same file in other blocks.
-    pub same_files: u64,
-    /// Files of which another rate changes nothing but its own bytes.
-    pub other_rates: u64,
 }
 
 impl Tally {
@@ -107,7 +92,7 @@ impl Tally {
     }
 
     /// What was found on the core's own answers, and how often.
-    pub fn checked(&self) -> [(String, u64); 39] {
+    pub fn checked(&self) -> [(String, u64); 31] {
         [
             ("cut blocks that opened".into(), self.cut_blocks),
             ("narrowed blocks that opened".into(), self.narrowed_blocks),
@@ -140,14 +125,6 @@ impl Tally {
             ("lines with one normal line".into(), self.normal_lines),
             ("setups that are the same in any spelling".into(), self.respelled),
             ("lines that are none with one byte more".into(), self.ended_lines),
-            ("segments with the files of known samples".into(), self.known_sounds),
-            ("files of known samples".into(), self.known_files),
-            ("files of known faults".into(), self.faulty_files),
-            ("segments read back as they were written".into(), self.sounds_read_back),
-            ("files written again as they were read".into(), self.written_again),
-            ("segments with files of their own".into(), self.different_files),
-            ("segments with one file in any block".into(), self.same_files),
-            ("files that differ by the rate alone".into(), self.other_rates),
         ]
     }
 

@@ -1,7 +1,7 @@
 //! The document's checked examples and the requests', and the descriptor's table held against its
 //! own words. chains.rs has cuts of cuts, crossing.rs crossings, join.rs joins, marks.rs walks and
-//! marks, narrow.rs narrowing, places.rs where things stand, setup.rs setups as lines, sound.rs sound
-//! files, strip.rs strips.
+//! marks, narrow.rs narrowing, places.rs where things stand, setup.rs setups as lines, strip.rs
+//! strips.
 
 mod chains;
 mod crossing;
@@ -10,7 +10,6 @@ mod marks;
 mod narrow;
 mod places;
 mod setup;
-mod sound;
 mod strip;
 
 use crate::draft::Draft;

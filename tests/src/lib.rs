@@ -26,7 +26,6 @@ pub mod runner;
 pub mod samples;
 pub mod setups;
 pub mod shape;
-pub mod sounds;
 pub mod strips;
 pub mod times;
 

@@ -5,7 +5,6 @@ use crate::law::cut::Setup;
 use crate::law::rules::{open, LAST_PLACE};
 use crate::random::Random;
 use crate::request::Call;
-use crate::sounds::rates;
 use crate::strips::columns;
 
 /// The limits of a block's questions.
@@ -55,12 +54,6 @@ impl Extent {
             _ => columns::right(self.points, random),
         };
         Call::Strip { array, segment, columns }
-    }
-
-    pub fn sound(&self, random: &mut Random) -> Call {
-        let (array, segment) = (self.array(random), self.segment(random));
-        let rate = if random.once_in(10) { rates::bad(random) } else { rates::right(random) };
-        Call::SoundWrite { array, segment, rate }
     }
 
     pub fn cut(&self, random: &mut Random) -> Call {
@@ -119,7 +112,6 @@ impl Extent {
         calls.push(self.strip(random));
         calls.extend(place_calls(random));
         calls.push(Call::Narrow);
-        calls.push(self.sound(random));
         calls
     }
 

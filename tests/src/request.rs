@@ -23,10 +23,6 @@ pub enum Call {
     // `block` holds the parts, back to back.
     Join,
     Narrow,
-    // The file goes to `out`.
-    SoundWrite { array: u32, segment: u32, rate: u32 },
-    // `block` holds the file; its samples go to `out`.
-    SoundRead,
     // Where the payload and its ten parts start, with the fields that say so.
     Layout,
     // Where the user text stands in the block.
@@ -49,7 +45,7 @@ pub enum Call {
 
 impl Call {
     /// How many calls there are, by name.
-    pub const NAMES: usize = 22;
+    pub const NAMES: usize = 20;
 
     pub fn name(&self) -> &'static str {
         match self {
@@ -64,8 +60,6 @@ impl Call {
             Call::SetupWrite { .. } => "setup write",
             Call::Join => "join",
             Call::Narrow => "narrow",
-            Call::SoundWrite { .. } => "sound write",
-            Call::SoundRead => "sound read",
             Call::Layout => "layout",
             Call::TextPlace => "place of user text",
             Call::LabelPlace { .. } => "place of label",
@@ -111,7 +105,7 @@ impl fmt::Display for Call {
     fn fmt(&self, f: &mut fmt::Formatter) -> fmt::Result {
         write!(f, "{}", self.name())?;
         match self {
-            Call::Open | Call::SetupRead | Call::Join | Call::Narrow | Call::SoundRead => Ok(()),
+            Call::Open | Call::SetupRead | Call::Join | Call::Narrow => Ok(()),
             Call::Layout | Call::TextPlace | Call::UserText => Ok(()),
             Call::Point { array, segment, point } => {
                 write!(f, ": array {array}, segment {segment}, point {point}")
@@ -126,9 +120,6 @@ impl fmt::Display for Call {
             }
             Call::Strip { array, segment, columns } => {
                 write!(f, ": array {array}, segment {segment}, columns {columns}")
-            }
-            Call::SoundWrite { array, segment, rate } => {
-                write!(f, ": array {array}, segment {segment}, rate {rate}")
             }
             Call::Cut { setup, order } => write!(f, ": {setup}, order {order}"),
             Call::Combined { a, b, count } => write!(f, ": {a}; then {b}, c {count}"),
@@ -151,9 +142,9 @@ impl fmt::Display for Setup {
 }
 
 /// A call with the slices lent to it, and what they hold before it. `fallback` is empty but for a
-/// label and its place, `out` but for a cut, a setup write, a join, a narrowing, a sound and a walk,
-/// `marks` but for a walk and a step, `least` and `greatest` but for a strip. A combined setup and a
-/// setup write take no block. Floats are lent as their bytes, the low byte first.
+/// label and its place, `out` but for a cut, a setup write, a join, a narrowing and a walk, `marks` but
+/// for a walk and a step, `least` and `greatest` but for a strip. A combined setup and a setup write
+/// take no block. Floats are lent as their bytes, the low byte first.
 #[derive(Clone)]
 pub struct Request<'a> {
     pub call: Call,
@@ -220,11 +211,6 @@ impl Reply {
 
     /// The line that an accepted setup write wrote.
     pub fn line(&self) -> &[u8] {
-        self.out_by(0)
-    }
-
-    /// The file that an accepted sound write wrote.
-    pub fn file(&self) -> &[u8] {
         self.out_by(0)
     }
 

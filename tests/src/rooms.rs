@@ -3,7 +3,6 @@
 use crate::calls::LAW;
 use crate::law::cut::{Setup, CUT_MORE};
 use crate::law::setup::normal_line;
-use crate::law::sound::sound_of;
 use crate::law::texts;
 use crate::questions::Extent;
 use crate::random::Random;
@@ -25,7 +24,7 @@ pub struct Room {
 
 impl Room {
     /// For a cut, a join or a narrowing: its block, then the numbers of its answer. For a setup write:
-    /// its line; for a sound: its file, or the samples of one.
+    /// its line.
     pub fn for_block(out: usize, answer: usize) -> Room {
         Room { out, answer, ..Room::default() }
     }
@@ -101,11 +100,6 @@ fn need(call: Call, block: &[u8]) -> Room {
         Call::Fill { .. } => Room::for_answer(8 * points() + 8),
         Call::Cut { .. } | Call::Join => need_of_block(call, block, 16, Reply::written),
         Call::Narrow => need_of_block(call, block, 8, Reply::narrowed),
-        Call::SoundWrite { .. } => need_of_block(call, block, 8, Reply::file),
-        Call::SoundRead => {
-            let samples = sound_of(block).map_or(1, |sound| sound.samples.len());
-            Room::for_block(8 * samples, 24)
-        }
         Call::Combined { .. } | Call::SetupRead => Room::for_answer(32),
         Call::SetupWrite { setup: Setup { sp, np, fp, sn } } => {
             Room::for_block(normal_line([sp, np, fp, sn]).len(), 8)
@@ -129,14 +123,14 @@ fn need(call: Call, block: &[u8]) -> Room {
     }
 }
 
-/// The room that the block or file takes which a call writes, beside an answer of so many bytes.
+/// The room that the block takes which a call writes, beside an answer of so many bytes.
 fn need_of_block(call: Call, block: &[u8], answer: usize, written: fn(&Reply) -> &[u8]) -> Room {
     let room = Room::for_block(block.len() + CUT_MORE, answer);
     let reply = LAW.reply(&with_zeros(call, block, room));
     Room::for_block(if reply.number == 0 { written(&reply).len() } else { 400 }, answer)
 }
 
-/// A request for a block or file to be written, whose outputs hold zeros.
+/// A request for a block to be written, whose outputs hold zeros.
 fn with_zeros(call: Call, block: &[u8], room: Room) -> Request<'_> {
     let [out, answer] = [room.out, room.answer].map(|room| vec![0; room]);
     let (fallback, marks, least, greatest) = Default::default();

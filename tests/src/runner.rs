@@ -189,8 +189,6 @@ impl Core for Runner {
             Call::Strip { array, segment, columns } => (18, vec![array, segment, columns]),
             Call::SetupRead => (19, vec![]),
             Call::SetupWrite { setup: Setup { sp, np, fp, sn } } => (20, vec![sp, np, fp, sn]),
-            Call::SoundWrite { array, segment, rate } => (21, vec![array, segment, rate]),
-            Call::SoundRead => (22, vec![]),
         };
         let Request { block, unread, fallback, out, answer, marks, least, greatest, .. } = request;
         let slices: Lent = [block, fallback, out, answer, marks, least, greatest];

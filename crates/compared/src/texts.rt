@@ -4,8 +4,7 @@ ghost use Rattle.block.specs.Texts.{text_of, label_of};
 ghost use Rattle.compared.specs.Tested.{copied};
 
 // The user text of a block, at the start of out.
-#[unsafe(no_mangle)]
-pub extern "C" fn compared_user_text(block: &[u8], out: &mut [u8]) -> usize
+pub fn compared_user_text(block: &[u8], out: &mut [u8]) -> usize
     ensures value { result ≡ length (text_of block.now) }
     ensures out_after { out.new ≡ copied (text_of block.now) out.old }
 {
@@ -14,8 +13,7 @@ pub extern "C" fn compared_user_text(block: &[u8], out: &mut [u8]) -> usize
 }
 
 // The label of a block, or the fallback, at the start of out.
-#[unsafe(no_mangle)]
-pub extern "C" fn compared_label<'a>(block: &'a [u8], fallback: &'a [u8], out: &mut [u8]) -> usize
+pub fn compared_label<'a>(block: &'a [u8], fallback: &'a [u8], out: &mut [u8]) -> usize
     ensures value { result ≡ length (label_of block.now fallback.now) }
     ensures out_after { out.new ≡ copied (label_of block.now fallback.now) out.old }
 {

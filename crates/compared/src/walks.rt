@@ -9,8 +9,7 @@ ghost use Rattle.compared.specs.Tested.{copied, mark_byte, steps_number, values_
 use points::{Place, Step};
 
 // The value, the time and the mark of each point that a walk hands out until it is done, at the start of values, of times and of marks.
-#[unsafe(no_mangle)]
-pub extern "C" fn compared_steps(
+pub fn compared_steps(
     block: &[u8],
     array: u32,
     segment: u32,
@@ -42,8 +41,7 @@ pub extern "C" fn compared_steps(
 
 // What the step after the first k hands out, and how many numbers that is: a value and a time to out, and a mark to mark, or none. A slice
 // that is shorter holds what it held.
-#[unsafe(no_mangle)]
-pub extern "C" fn compared_step(
+pub fn compared_step(
     block: &[u8],
     array: u32,
     segment: u32,

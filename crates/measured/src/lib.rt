@@ -1,5 +1,5 @@
 // Two calls that are there to be counted: the values of a segment as floats and how many samples stand at the rail, by the fill, and by the
-// walk, which leaves and answers the same, bit for bit.
+// walk, which leaves and answers the same, bit for bit. The crate measured_c exports them.
 #![tactic(auto)]
 
 ghost use Rattle.std.specs.Prelude.{◌≡◌, ◌++◌, map, ◌+◌, ◌*◌, ◌≤◌, length, drop};
@@ -14,8 +14,7 @@ use points::{Place, Step};
 
 // All M values of a segment of an array, at the start of out, by the fill; the answer has the refusal's number in its high half, and in its
 // low half how many samples stand at the rail.
-#[unsafe(no_mangle)]
-pub extern "C" fn measured_fill(block: &[u8], array: u32, segment: u32, out: &mut [f64]) -> u64
+pub fn measured_fill(block: &[u8], array: u32, segment: u32, out: &mut [f64]) -> u64
     ensures value { result ≡ told_of (filled_as block.now array segment (length out.old)) }
     ensures out_after { out.new ≡ filled_out block.now array segment out.old }
 {
@@ -24,8 +23,7 @@ pub extern "C" fn measured_fill(block: &[u8], array: u32, segment: u32, out: &mu
 }
 
 // The same by the walk, point by point.
-#[unsafe(no_mangle)]
-pub extern "C" fn measured_walk(block: &[u8], array: u32, segment: u32, out: &mut [f64]) -> u64
+pub fn measured_walk(block: &[u8], array: u32, segment: u32, out: &mut [f64]) -> u64
     ensures value { result ≡ told_of (filled_as block.now array segment (length out.old)) }
     ensures out_after { out.new ≡ filled_out block.now array segment out.old }
 {

@@ -7,8 +7,7 @@ ghost use Rattle.tessarquin.specs.Calls.{setup, setup_numbers, combined_number, 
 use cuts::{Combination, Setup};
 
 // The setup of the one cut for the cut a, and then the cut b of what a wrote, which answered `count` as its c: SP, NP, FP and SN.
-#[unsafe(no_mangle)]
-pub extern "C" fn tessarquin_combined(
+pub fn tessarquin_combined(
     spa: u32,
     npa: u32,
     fpa: u32,

@@ -3,8 +3,7 @@ ghost use Rattle.std.specs.Prelude.{◌≡◌, length};
 ghost use Rattle.tessarquin.specs.Calls.{crossing_number, crossing_left};
 
 // The first point of a segment of an array whose value is at or above a level: 1 and the point, or 0 and 0 where there is none.
-#[unsafe(no_mangle)]
-pub extern "C" fn tessarquin_crossing(
+pub fn tessarquin_crossing(
     block: &[u8],
     array: u32,
     segment: u32,

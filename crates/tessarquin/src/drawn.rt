@@ -4,8 +4,7 @@ ghost use Rattle.tessarquin.specs.Calls.{strip_number, least_left, greatest_left
 
 // A segment of an array in so many columns: the least sample of each to least, the greatest to greatest; the sum of all samples, how many stand at
 // the rail and the first point that holds the greatest to the answer.
-#[unsafe(no_mangle)]
-pub extern "C" fn tessarquin_strip(
+pub fn tessarquin_strip(
     block: &[u8],
     array: u32,
     segment: u32,

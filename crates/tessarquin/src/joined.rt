@@ -3,8 +3,7 @@ ghost use Rattle.std.specs.Prelude.{◌≡◌, length};
 ghost use Rattle.tessarquin.specs.Calls.{join_number, join_left, join_answer_left};
 
 // Joins blocks of one segment each, which stand back to back in any order: the block to out, how many there were and its length to the answer.
-#[unsafe(no_mangle)]
-pub extern "C" fn tessarquin_join(parts: &[u8], out: &mut [u8], answer: &mut [u8]) -> u32
+pub fn tessarquin_join(parts: &[u8], out: &mut [u8], answer: &mut [u8]) -> u32
     ensures value { result ≡ join_number parts.now (length out.old) (length answer.old) }
     ensures out_after { out.new ≡ join_left parts.now out.old (length answer.old) }
     ensures answer_after { answer.new ≡ join_answer_left parts.now (length out.old) answer.old }

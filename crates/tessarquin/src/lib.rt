@@ -1,5 +1,5 @@
 // The calls for a host in C: numbers and byte slices only. Each returns 0 or the number of its refusal, and writes its answer as numbers of
-// eight bytes, the high byte first.
+// eight bytes, the high byte first. The crate tessarquin_c exports them.
 #![tactic(auto)]
 
 mod combining;
@@ -20,12 +20,18 @@ ghost use Rattle.cuts.specs.Cuts.{setup_as};
 ghost use Rattle.tessarquin.specs.Calls.{setup, open_number, open_left, point_number, point_left, value_bits, fill_bytes, fill_number, fill_left, cut_number, cut_left, cut_answer_left};
 
 use block::Opened;
+pub use combining::tessarquin_combined;
+pub use crossed::tessarquin_crossing;
 use cuts::Setup;
+pub use drawn::tessarquin_strip;
+pub use joined::tessarquin_join;
+pub use narrowed::tessarquin_narrow;
+pub use parts::{tessarquin_label, tessarquin_layout, tessarquin_user_text};
 use points::Place;
+pub use typed::{tessarquin_setup_read, tessarquin_setup_write};
 
 // Opens a block: g, M, arrays, COMM_ORDER and COMM_TYPE.
-#[unsafe(no_mangle)]
-pub extern "C" fn tessarquin_open(block: &[u8], answer: &mut [u8]) -> u32
+pub fn tessarquin_open(block: &[u8], answer: &mut [u8]) -> u32
     ensures value { result ≡ open_number block.now (length answer.old) }
     ensures answer_after { answer.new ≡ open_left block.now answer.old }
 {
@@ -41,8 +47,7 @@ pub extern "C" fn tessarquin_open(block: &[u8], answer: &mut [u8]) -> u32
 }
 
 // A point of a segment of an array: the bits of its value and of its time, and its mark.
-#[unsafe(no_mangle)]
-pub extern "C" fn tessarquin_point(
+pub fn tessarquin_point(
     block: &[u8],
     array: u32,
     segment: u32,
@@ -65,8 +70,7 @@ pub extern "C" fn tessarquin_point(
 }
 
 // All M points of a segment of an array: the bits of their values, and how many of their samples stand at the rail.
-#[unsafe(no_mangle)]
-pub extern "C" fn tessarquin_fill(block: &[u8], array: u32, segment: u32, answer: &mut [u8]) -> u32
+pub fn tessarquin_fill(block: &[u8], array: u32, segment: u32, answer: &mut [u8]) -> u32
     ensures value { result ≡ fill_number block.now array segment (length answer.old) }
     ensures answer_after { answer.new ≡ fill_left block.now array segment answer.old }
 {
@@ -82,8 +86,7 @@ pub extern "C" fn tessarquin_fill(block: &[u8], array: u32, segment: u32, answer
 }
 
 // Cuts a block by SP, NP, FP and SN into the order asked for: the block to out, c and its length to the answer.
-#[unsafe(no_mangle)]
-pub extern "C" fn tessarquin_cut(
+pub fn tessarquin_cut(
     block: &[u8],
     sp: u32,
     np: u32,

@@ -4,8 +4,7 @@ ghost use Rattle.narrowing.specs.Narrow.{narrow_refusal};
 ghost use Rattle.tessarquin.specs.Calls.{narrow_number, narrow_left, narrow_answer_left};
 
 // Narrows a block of words to bytes: the block to out, its length to the answer.
-#[unsafe(no_mangle)]
-pub extern "C" fn tessarquin_narrow(block: &[u8], out: &mut [u8], answer: &mut [u8]) -> u32
+pub fn tessarquin_narrow(block: &[u8], out: &mut [u8], answer: &mut [u8]) -> u32
     ensures value { result ≡ narrow_number block.now (length out.old) (length answer.old) }
     ensures out_after { out.new ≡ narrow_left block.now out.old (length answer.old) }
     ensures answer_after { answer.new ≡ narrow_answer_left block.now (length out.old) answer.old }

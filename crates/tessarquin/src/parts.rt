@@ -6,8 +6,7 @@ ghost use Rattle.tessarquin.specs.Calls.{layout_number, layout_left, text_number
 use block::Opened;
 
 // The layout of a block: where the payload starts, F, S, SEGMENT_INDEX, SUBARRAY_COUNT, the ten lengths and the ten starts in the payload.
-#[unsafe(no_mangle)]
-pub extern "C" fn tessarquin_layout(block: &[u8], answer: &mut [u8]) -> u32
+pub fn tessarquin_layout(block: &[u8], answer: &mut [u8]) -> u32
     ensures value { result ≡ layout_number block.now (length answer.old) }
     ensures answer_after { answer.new ≡ layout_left block.now answer.old }
 {
@@ -23,8 +22,7 @@ pub extern "C" fn tessarquin_layout(block: &[u8], answer: &mut [u8]) -> u32
 }
 
 // The user text of a block: where it starts in the block, and how many bytes it has.
-#[unsafe(no_mangle)]
-pub extern "C" fn tessarquin_user_text(block: &[u8], answer: &mut [u8]) -> u32
+pub fn tessarquin_user_text(block: &[u8], answer: &mut [u8]) -> u32
     ensures value { result ≡ text_number block.now (length answer.old) }
     ensures answer_after { answer.new ≡ text_left block.now answer.old }
 {
@@ -41,8 +39,7 @@ pub extern "C" fn tessarquin_user_text(block: &[u8], answer: &mut [u8]) -> u32
 }
 
 // The label of a block: 0, where it starts in the block and its length; or where TRACE_LABEL is empty 1, 0 and the fallback's length.
-#[unsafe(no_mangle)]
-pub extern "C" fn tessarquin_label(block: &[u8], fallback: &[u8], answer: &mut [u8]) -> u32
+pub fn tessarquin_label(block: &[u8], fallback: &[u8], answer: &mut [u8]) -> u32
     ensures value { result ≡ label_number block.now fallback.now (length answer.old) }
     ensures answer_after { answer.new ≡ label_left block.now fallback.now answer.old }
 {

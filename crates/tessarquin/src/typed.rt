@@ -10,8 +10,7 @@ use cuts::Setup;
 use setups::Reading;
 
 // Reads a setup line: SP, NP, FP and SN.
-#[unsafe(no_mangle)]
-pub extern "C" fn tessarquin_setup_read(line: &[u8], answer: &mut [u8]) -> u32
+pub fn tessarquin_setup_read(line: &[u8], answer: &mut [u8]) -> u32
     ensures value { result ≡ setup_read_number line.now (length answer.old) }
     ensures answer_after { answer.new ≡ setup_read_left line.now answer.old }
 {
@@ -28,8 +27,7 @@ pub extern "C" fn tessarquin_setup_read(line: &[u8], answer: &mut [u8]) -> u32
 }
 
 // Writes the normal line of a setup: the line to out, its length to the answer.
-#[unsafe(no_mangle)]
-pub extern "C" fn tessarquin_setup_write(
+pub fn tessarquin_setup_write(
     sp: u32,
     np: u32,
     fp: u32,

@@ -13,7 +13,6 @@ use tessarquin_tests::joins;
 use tessarquin_tests::narrows;
 use tessarquin_tests::random::Random;
 use tessarquin_tests::setups;
-use tessarquin_tests::sounds;
 use tessarquin_tests::strips;
 
 /// A wrong version.
@@ -44,7 +43,7 @@ struct Way {
     run: fn(&mut Checker, &mut Random) -> Result<(), Difference>,
 }
 
-const WAYS: [Way; 31] = [
+const WAYS: [Way; 25] = [
     Way {
         flaw: "breaks demand 3",
         caught_how: "caught by demand 3 alone",
@@ -194,42 +193,6 @@ const WAYS: [Way; 31] = [
         caught_how: "caught by one byte more alone",
         kind: "line and one byte more",
         run: setups::by_more,
-    },
-    Way {
-        flaw: "misses a sound",
-        caught_how: "caught by sounds and files of known samples and faults alone",
-        kind: "known sound and file",
-        run: sounds::by_making,
-    },
-    Way {
-        flaw: "plays back otherwise",
-        caught_how: "caught by reading the sounds they write alone",
-        kind: "sound written and read",
-        run: sounds::by_writing,
-    },
-    Way {
-        flaw: "writes another file",
-        caught_how: "caught by writing the sounds they read alone",
-        kind: "sound read and written",
-        run: sounds::by_reading,
-    },
-    Way {
-        flaw: "shares a file",
-        caught_how: "caught by nearly the same samples alone",
-        kind: "sounds that differ in little",
-        run: sounds::by_two,
-    },
-    Way {
-        flaw: "hangs on the block",
-        caught_how: "caught by the same samples in other blocks alone",
-        kind: "sound in other blocks",
-        run: sounds::by_blocks,
-    },
-    Way {
-        flaw: "hangs on the rate",
-        caught_how: "caught by another rate alone",
-        kind: "sound at another rate",
-        run: sounds::by_rates,
     },
 ];
 

@@ -2,8 +2,7 @@
 //! refusal leaves every lent slice as it was. places.rs has those that answer where things stand,
 //! combined.rs the one that makes one cut of two, crossing.rs the one that looks for a level, join.rs
 //! the one that joins, narrow.rs the one that narrows, setup.rs the two that read and write setups as
-//! lines, sound.rs the two that write and read sound files, strip.rs the one that parts a segment into
-//! columns.
+//! lines, strip.rs the one that parts a segment into columns.
 
 use super::cut::{cut as cut_block, Setup};
 use super::numbers::{store, Order};
@@ -130,7 +129,7 @@ pub fn choose_array(opened: &Opened, array: i64) -> Result<(), Refusal> {
     refuse(array > opened.arrays.len() as i64, Refusal::Choice)
 }
 
-/// 10 SEGMENT, for a point, fill, walk, crossing, strip or sound
+/// 10 SEGMENT, for a point, fill, walk, crossing or strip
 pub fn choose_segment(opened: &Opened, segment: i64) -> Result<(), Refusal> {
     refuse(segment < 1, Refusal::Segment)?;
     refuse(segment > opened.segments, Refusal::Segment)

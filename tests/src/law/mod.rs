@@ -17,7 +17,6 @@ pub mod places;
 pub mod points;
 pub mod rules;
 pub mod setup;
-pub mod sound;
 pub mod strip;
 pub mod tested;
 pub mod texts;

@@ -25,7 +25,6 @@ pub enum Refusal {
     Join,
     Gain = 19,
     Time,
-    Riff,
 }
 
 pub const SHORTEST_PAYLOAD: usize = SIZE;
