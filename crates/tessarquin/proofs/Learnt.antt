@@ -17,9 +17,9 @@ use Rattle.tessarquin.proofs.typed.tessarquin_setup_read.Reads as setup-read-rea
 use Rattle.tessarquin.proofs.typed.tessarquin_setup_write.Reads as setup-write-reads
 use Rattle.tessarquin.proofs.joined.tessarquin_join.Reads as join-reads
 use Rattle.tessarquin.proofs.narrowed.tessarquin_narrow.Reads as narrow-reads
-use Rattle.tessarquin.proofs.parts.tessarquin_layout.Reads as layout-reads
-use Rattle.tessarquin.proofs.parts.tessarquin_user_text.Reads as text-reads
-use Rattle.tessarquin.proofs.parts.tessarquin_label.Reads as label-reads
+use Rattle.tessarquin.proofs.portions.tessarquin_layout.Reads as layout-reads
+use Rattle.tessarquin.proofs.portions.tessarquin_user_text.Reads as text-reads
+use Rattle.tessarquin.proofs.portions.tessarquin_label.Reads as label-reads
 
 -- lent a block of the bytes s and a slice of these bytes for the answer, `tessarquin_open` returned m and left these bytes in the slice
 abbrev pub OpenCall : List ℕ → List ℕ → ℕ → List ℕ → Type 0

@@ -7,7 +7,7 @@ mod crossed;
 mod drawn;
 mod joined;
 mod narrowed;
-mod parts;
+mod portions;
 mod typed;
 
 ghost use Rattle.std.specs.Prelude.{◌≡◌, [], ◌∷◌, ◌+◌, ◌*◌, ◌≤◌, length};
@@ -26,8 +26,8 @@ use cuts::Setup;
 pub use drawn::tessarquin_strip;
 pub use joined::tessarquin_join;
 pub use narrowed::tessarquin_narrow;
-pub use parts::{tessarquin_label, tessarquin_layout, tessarquin_user_text};
 use points::Place;
+pub use portions::{tessarquin_label, tessarquin_layout, tessarquin_user_text};
 pub use typed::{tessarquin_setup_read, tessarquin_setup_write};
 
 // Opens a block: g, M, arrays, COMM_ORDER and COMM_TYPE.

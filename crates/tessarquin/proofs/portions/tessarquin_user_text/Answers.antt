@@ -11,8 +11,8 @@ use Rattle.block.proofs.Answers.{number_is}
 use Rattle.block.proofs.Parts.{span_length}
 use Rattle.tessarquin.specs.Calls.{text_bytes, text_number, text_left}
 use Rattle.tessarquin.proofs.Slices.{pair-length, own_refused, own_short, own_left}
-use Rattle.tessarquin.proofs.parts.tessarquin_user_text.Goals as goal
-use Rattle.tessarquin.proofs.parts.tessarquin_user_text.Goals.{After-shared_slice_known-1, Else-o-ne0}
+use Rattle.tessarquin.proofs.portions.tessarquin_user_text.Goals as goal
+use Rattle.tessarquin.proofs.portions.tessarquin_user_text.Goals.{After-shared_slice_known-1, Else-o-ne0}
 
 -- every element of a slice is a byte
 bytes : (c : After-shared_slice_known-1) → Bytes c.args.block.now

@@ -5,7 +5,7 @@ use Prim.Native.Nat.{ℕ}
 use native.Mathlib.Omega.{arith}
 use Rattle.rules.specs.Numbers.{all_bytes, splice}
 use Rattle.tessarquin.proofs.Writing.{numbers_then}
-use Rattle.tessarquin.proofs.parts.put_layout.Goals as goal
+use Rattle.tessarquin.proofs.portions.put_layout.Goals as goal
 
 pub returns : goal.returns
 returns c =

@@ -8,8 +8,8 @@ use Rattle.rules.specs.Rules.{refusal}
 use Rattle.block.proofs.Answers.{number_is}
 use Rattle.tessarquin.specs.Calls.{label_bytes, label_number, label_left}
 use Rattle.tessarquin.proofs.Slices.{label_length, label_other, label_own, own_refused, own_short, own_left}
-use Rattle.tessarquin.proofs.parts.tessarquin_label.Goals as goal
-use Rattle.tessarquin.proofs.parts.tessarquin_label.Goals.{Else-o-ne0}
+use Rattle.tessarquin.proofs.portions.tessarquin_label.Goals as goal
+use Rattle.tessarquin.proofs.portions.tessarquin_label.Goals.{Else-o-ne0}
 
 accepts : (c : Else-o-ne0) → refusal c.args.block.now ≡ 0
 accepts c = sym (number_is c.args.block.now c.open-o.result c.open-o.ensures) ∙ c.if-o-ne0.false

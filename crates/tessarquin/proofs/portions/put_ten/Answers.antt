@@ -9,7 +9,7 @@ use Rattle.rules.specs.Numbers.{bytes, all_bytes, splice}
 use Rattle.rules.proofs.Splices.{splice_none}
 use Rattle.tessarquin.proofs.Writing.{number_next}
 use borrow.Author.Rules.{rules}
-use Rattle.tessarquin.proofs.parts.put_ten.Goals as goal
+use Rattle.tessarquin.proofs.portions.put_ten.Goals as goal
 
 pub loop-i-init : goal.loop-i-init
 unfolding flatten

@@ -11,8 +11,8 @@ use Rattle.block.specs.declared.Opened.{Opened}
 use Rattle.block.proofs.Answers.{number_is, accepted_as_lem}
 use Rattle.tessarquin.specs.Calls.{layout_bytes, layout_number, layout_left}
 use Rattle.tessarquin.proofs.Slices.{layout_length, own_refused, own_short, own_left}
-use Rattle.tessarquin.proofs.parts.tessarquin_layout.Goals as goal
-use Rattle.tessarquin.proofs.parts.tessarquin_layout.Goals.{Else-o-ne0}
+use Rattle.tessarquin.proofs.portions.tessarquin_layout.Goals as goal
+use Rattle.tessarquin.proofs.portions.tessarquin_layout.Goals.{Else-o-ne0}
 
 module _ (c : Else-o-ne0) where
   accepts : refusal c.args.block.now ≡ 0
