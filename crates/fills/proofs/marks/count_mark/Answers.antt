@@ -7,4 +7,4 @@ use Rattle.fills.proofs.marks.count_mark.Goals as goal
 
 pub returns : goal.returns
 returns c =
-    c.mark_number.ensures ∙ ap mark_number (c.at_rail.ensures ∙ ap (at_rail c.args.size) (to_z-of_z w16 c.args.sample c.ranges.sample))
+    c.from.ensures ∙ c.mark_number.ensures ∙ ap mark_number (c.at_rail.ensures ∙ ap (at_rail c.args.size) (to_z-of_z w16 c.args.sample c.ranges.sample))
