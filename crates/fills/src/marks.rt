@@ -2,13 +2,6 @@
 ghost use Rattle.std.specs.Prelude.{◌≡◌, ◌≤◌, length};
 ghost use Rattle.rules.specs.Points.{at_rail, mark_number, mark_count_of};
 
-// How many samples were filled, and how many of them stand at the rail.
-#[derive(Clone, Copy)]
-pub struct Run {
-    pub samples: usize,
-    pub marks: usize,
-}
-
 // Whether a sample of `size` bytes stands at the rail.
 pub fn at_rail(sample: i16, size: usize) -> bool
     requires { (1 ≤ size) × (size ≤ 2) }

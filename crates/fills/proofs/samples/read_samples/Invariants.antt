@@ -1,7 +1,7 @@
 -- Each turn stores the next sample.
 use mathlib.Core.Path.{◌≡◌}
 use mathlib.Core.List.{map}
-use Prim.Native.Nat.{◌-◌, ◌≤◌}
+use Prim.Native.Nat.{◌≤◌}
 use Rattle.rules.specs.Numbers.{up_from}
 use Rattle.fills.specs.Fills.{sample_at, over}
 use Rattle.fills.proofs.samples.read_samples.Given as goal

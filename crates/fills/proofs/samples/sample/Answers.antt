@@ -2,14 +2,12 @@
 use mathlib.Core.Path.{◌≡◌, sym, ap, ◌∙◌}
 use Prim.Native.Nat.{ℕ, ◌+◌, ◌*◌}
 use native.Mathlib.Omega.{arith}
-use lib.Dec.{lit≤}
 use lib.ListN.{take, drop}
 use lib.IntN.{ℤ}
 use mir.Syntax.{w8, w16}
 use mir.ValLaws.{to_z-of_z}
 use Rattle.rules.specs.Numbers.{number, signed}
 use Rattle.fills.specs.Fills.{sample_at}
-use Rattle.scale.proofs.Samples.{cast_fits, cast_same}
 use Rattle.fills.proofs.Sampling.{counted, words}
 use Rattle.fills.proofs.samples.sample.Goals as goal
 

@@ -1,7 +1,7 @@
 -- Each turn stores the next number, which is the same in 32 bits.
 use mathlib.Core.Path.{◌≡◌, sym, subst, ◌∙◌}
 use mathlib.Core.List.{List, map, map-id}
-use Prim.Native.Nat.{ℕ, ◌-◌, ◌^◌, ◌≤◌}
+use Prim.Native.Nat.{ℕ, ◌^◌, ◌≤◌}
 use native.Mathlib.Nat.{le_trans}
 use native.Mathlib.Omega.{arith}
 use lib.Dec.{lit≤}
@@ -13,7 +13,6 @@ use mir.Val.{SFits}
 use mir.ValLaws.{to_z-of_z}
 use borrow.Author.Rules.{rules}
 use Rattle.rules.specs.Numbers.{up_from}
-use Rattle.fills.specs.Fills.{over}
 use Rattle.fills.proofs.Writes.{over_none, over-whole, length_map_up, all_next, map-one, map-get_or}
 use Rattle.fills.proofs.samples.widen.Goals as goal
 

@@ -1,7 +1,7 @@
 -- Each turn stores the next number, which is the same in 32 bits.
 use mathlib.Core.Path.{◌≡◌}
 use mathlib.Core.List.{map}
-use Prim.Native.Nat.{ℕ, ◌-◌, ◌^◌, ◌≤◌, ◌<◌}
+use Prim.Native.Nat.{ℕ, ◌^◌, ◌≤◌, ◌<◌}
 use lib.IntN.{pos, nat_abs}
 use lib.ListN.{get_or}
 use Rattle.rules.specs.Numbers.{up_from}
