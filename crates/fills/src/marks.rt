@@ -26,14 +26,6 @@ pub(crate) fn count_marks(samples: &[i16; 64], size: usize) -> usize
     usize::from(n)
 }
 
-// 1 where a sample of `size` bytes stands at the rail, and else 0.
-pub(crate) fn count_mark(sample: i16, size: usize) -> usize
-    requires { (1 ≤ size) × (size ≤ 2) }
-    ensures { result ≡ mark_number (at_rail size sample) }
-{
-    usize::from(mark_number(at_rail(sample, size)))
-}
-
 // 1 for a mark and 0 for none, in 16 bits as the samples are: so a vector instruction adds as many marks as it compares samples.
 pub fn mark_number(mark: bool) -> u16
     ensures { result ≡ mark_number mark }
