@@ -15,7 +15,7 @@ use contract.Lifetimes.{Lfts}
 use denote.Ref.{Bor}
 use Rattle.rules.specs.Numbers.{Bytes}
 use Rattle.rules.specs.Wave.{points}
-use Rattle.rules.specs.Rules.{first, refusal, opened}
+use Rattle.rules.specs.Rules.{first, opened}
 use Rattle.rules.specs.Cut.{or_else}
 use Rattle.rules.specs.Points.{value_of, value, point_refusal}
 use Rattle.rules.proofs.Tests.{or_some}

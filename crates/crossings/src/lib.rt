@@ -22,7 +22,8 @@ pub enum Crossing {
     Refused { number: u32 },
 }
 
-// An answer by its numbers: the refusal's, 1 for a point and 0 for none, and the point's.
+// An answer by its numbers: the refusal's, 1 for a point and 0 for none, and the point's. A flag beside its number, since the C interface
+// hands on these three.
 #[derive(Clone, Copy)]
 pub struct Told {
     pub refusal: u32,
@@ -75,7 +76,8 @@ pub fn tell(x: Crossing) -> Told
     }
 }
 
-// How many points of a segment that is not refused are below a finite level before the first that is not.
+// How many points of a segment that is not refused are below a finite level before the first that is not: all of them where none is, and
+// no Option, since `first_behind` answers so by its contract.
 fn below(block: &[u8], o: Opened, array: u32, segment: u32, level: f64) -> u32
     requires lent { Lent block.now o array segment 0 }
     requires t { T (finite level) }

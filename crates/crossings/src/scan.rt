@@ -39,13 +39,11 @@ pub fn first_behind(
     requires by_index { (j : ℕ) → j < done → between low high (sample_at order size block.now from j) ≡ false }
     ensures { First (λ k. between low high (sample_at order size block.now from k)) count result }
 {
-    let mut i = done;
-    while i < count {
+    for i in done..count {
         let z = fills::sample(block, from, i, size, order);
         if (low <= z) & (z <= high) {
             return i;
         }
-        i += 1;
     }
     count
 }
@@ -66,28 +64,26 @@ fn passed(
     ensures result_value { 64 ≤ count - result → some? (between low high) (map (sample_at order size block.now from) (up_from result 64)) ≡ true }
 {
     let mut samples = [0i16; 64];
-    let mut i = 0;
-    while 64 <= count - i {
-        fills::read_samples(block, from, i, size, order, &mut samples);
+    let blocks = count / 64;
+    for b in 0..blocks {
+        let first = b * 64;
+        fills::read_samples(block, from, first, size, order, &mut samples);
         if any_between(&samples, low, high) {
-            return i;
+            return first;
         }
-        i += 64;
     }
-    i
+    blocks * 64
 }
 
-// Whether one of sixty-four samples stands from low to high.
+// Whether one of sixty-four samples stands from low to high. All are compared, since a loop that stopped at the first would compile to no
+// vector code.
 fn any_between(samples: &[i16; 64], low: i16, high: i16) -> bool
     requires { length samples.now ≡ 64 }
     ensures { result ≡ some? (between low high) samples.now }
 {
     let mut any = false;
-    let mut k = 0;
-    while k < 64 {
-        let z = samples[k];
-        any = any | ((low <= z) & (z <= high));
-        k += 1;
+    for z in samples {
+        any |= (low <= *z) & (*z <= high);
     }
     any
 }

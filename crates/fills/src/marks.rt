@@ -2,13 +2,6 @@
 ghost use Rattle.std.specs.Prelude.{◌≡◌, ◌≤◌, length};
 ghost use Rattle.rules.specs.Points.{at_rail, mark_number, mark_count_of};
 
-// How many samples were filled, and how many of them stand at the rail.
-#[derive(Clone, Copy)]
-pub struct Run {
-    pub samples: usize,
-    pub marks: usize,
-}
-
 // Whether a sample of `size` bytes stands at the rail.
 pub fn at_rail(sample: i16, size: usize) -> bool
     requires { (1 ≤ size) × (size ≤ 2) }
@@ -27,25 +20,15 @@ pub(crate) fn count_marks(samples: &[i16; 64], size: usize) -> usize
     ensures { result ≡ mark_count_of size samples.now }
 {
     let mut n: u16 = 0;
-    let mut k = 0;
-    while k < 64 {
-        n = n + mark_number(at_rail(samples[k], size));
-        k += 1;
+    for sample in samples {
+        n += mark_number(at_rail(*sample, size));
     }
-    n as usize
-}
-
-// 1 where a sample of `size` bytes stands at the rail, and else 0.
-pub(crate) fn count_mark(sample: i16, size: usize) -> usize
-    requires { (1 ≤ size) × (size ≤ 2) }
-    ensures { result ≡ mark_number (at_rail size sample) }
-{
-    mark_number(at_rail(sample, size)) as usize
+    usize::from(n)
 }
 
 // 1 for a mark and 0 for none, in 16 bits as the samples are: so a vector instruction adds as many marks as it compares samples.
 pub fn mark_number(mark: bool) -> u16
     ensures { result ≡ mark_number mark }
 {
-    if mark { 1 } else { 0 }
+    u16::from(mark)
 }

@@ -1,7 +1,8 @@
--- Samples of one byte, which are the same in every order.
+-- Samples of one byte, which are the same in every order, and one float for each.
 use mathlib.Core.Path.{ap, ◌∙◌}
 use mathlib.Core.List.{◌++◌, map}
 use Prim.Native.Nat.{ℕ}
+use native.Mathlib.Nat.{mul-one}
 use native.Mathlib.Omega.{arith}
 use lib.IntN.{ℤ}
 use lib.ListN.{drop}
@@ -10,20 +11,22 @@ use Rattle.rules.specs.Numbers.{up_from}
 use Rattle.rules.specs.Points.{value_of, mark_count_of}
 use Rattle.fills.specs.Fills.{value_at, values_at, mark_count_at}
 use Rattle.fills.proofs.Sampling.{any_order}
+use Rattle.fills.proofs.Writes.{flatten_ones}
 use Rattle.fills.proofs.fill_bytes.Goals as goal
 
 pub fill-requires : goal.fill-requires
 fill-requires c = record {
   finite_value = search rules;
   holds = record { narrow = (omega arith, omega arith); inside = omega arith };
-  count_in_bounds = search rules;
+  count_in_bounds = omega arith;
 }
 
 pub returns : goal.returns
 unfolding value_at values_at mark_count_at
 returns c =
     let a = c.args in
+    let out = rw (mul-one, flatten_ones (value_at a.c.gain a.c.offset 0 1 a.block.now a.from) (up_from 0 a.count)) at c.fill.ensures.out_after in
     record {
-      by_index = λ o. c.fill.ensures.out_after ∙ ap (λ (f : ℕ → ℤ). map (λ k. value_of a.c.gain a.c.offset (f k)) (up_from 0 a.count) ++ drop a.count a.out.now) (any_order 0 o a.block.now a.from);
+      by_index = λ o. out ∙ ap (λ (f : ℕ → ℤ). map (λ k. value_of a.c.gain a.c.offset (f k)) (up_from 0 a.count) ++ drop a.count a.out.now) (any_order 0 o a.block.now a.from);
       by_index_2 = λ o. c.fill.ensures.value ∙ ap (λ (f : ℕ → ℤ). mark_count_of 1 (map f (up_from 0 a.count))) (any_order 0 o a.block.now a.from);
     }

@@ -12,8 +12,8 @@ use Rattle.fills.specs.Fills.{bits_of, value_at, bits_at, mark_count_at}
 use Rattle.fills.proofs.Sampling.{any_order}
 use Rattle.fills.proofs.put_bytes.Goals as goal
 
-pub put-requires : goal.put-requires
-put-requires c = record {
+pub fill-requires : goal.fill-requires
+fill-requires c = record {
   finite_value = search rules;
   holds = record { narrow = (omega arith, omega arith); inside = omega arith };
   count_in_bounds = search rules;
@@ -24,6 +24,6 @@ unfolding value_at bits_at mark_count_at
 returns c =
     let a = c.args in
     record {
-      by_index = λ o. c.put.ensures.out_after ∙ ap (λ (f : ℕ → ℤ). flatten (map (λ k. bits_of (value_of a.c.gain a.c.offset (f k))) (up_from 0 a.count)) ++ drop (a.count * 8) a.out.now) (any_order 0 o a.block.now a.from);
-      by_index_2 = λ o. c.put.ensures.value ∙ ap (λ (f : ℕ → ℤ). mark_count_of 1 (map f (up_from 0 a.count))) (any_order 0 o a.block.now a.from);
+      by_index = λ o. c.fill.ensures.out_after ∙ ap (λ (f : ℕ → ℤ). flatten (map (λ k. bits_of (value_of a.c.gain a.c.offset (f k))) (up_from 0 a.count)) ++ drop (a.count * 8) a.out.now) (any_order 0 o a.block.now a.from);
+      by_index_2 = λ o. c.fill.ensures.value ∙ ap (λ (f : ℕ → ℤ). mark_count_of 1 (map f (up_from 0 a.count))) (any_order 0 o a.block.now a.from);
     }

@@ -1,7 +1,7 @@
 -- Each turn looks at the next sample; none before it stands from low to high.
 use mathlib.Core.Path.{◌≡◌, sym, ap, ◌∙◌}
 use mathlib.Core.Bool.{false}
-use Prim.Native.Nat.{ℕ, ◌-◌}
+use Prim.Native.Nat.{ℕ}
 use native.Mathlib.Omega.{arith}
 use lib.IntN.{ℤ}
 use mir.Syntax.{w16}
@@ -19,7 +19,7 @@ pub loop-i-init : goal.loop-i-init
 loop-i-init c =
     let a = c.args in
     let f : ℕ → ℤ = sample_at a.order a.size a.block.now a.from in
-    (c.requires.done_le_count, λ j h. sym (as_lent a.low a.high (f j) c.ranges.low c.ranges.high) ∙ c.requires.by_index j h)
+    λ j h. sym (as_lent a.low a.high (f j) c.ranges.low c.ranges.high) ∙ c.requires.by_index j h
 
 pub sample-z-requires : goal.sample-z-requires
 sample-z-requires c = fewer c.requires.holds _ (omega arith)
@@ -39,9 +39,9 @@ returns-then-low-z c =
     let l = c.loop-i in
     let f : ℕ → ℤ = sample_at a.order a.size a.block.now a.from in
     record {
-      within = l.invariant.0;
+      within = omega arith;
       passes = λ h. as_lent a.low a.high (f l.i) c.ranges.low c.ranges.high ∙ looked (goal.at.returns-then-low-z c).After-sample-z ∙ c.if-low-z.true;
-      fails = λ j h. as_lent a.low a.high (f j) c.ranges.low c.ranges.high ∙ l.invariant.1 j h;
+      fails = λ j h. as_lent a.low a.high (f j) c.ranges.low c.ranges.high ∙ l.invariant j h;
     }
 
 pub loop-i-preserved : goal.loop-i-preserved
@@ -50,7 +50,7 @@ loop-i-preserved c =
     let a = c.args in
     let l = c.loop-i in
     let f : ℕ → ℤ = sample_at a.order a.size a.block.now a.from in
-    (omega arith, all_next (λ j. bits_between (of_z w16 a.low) (of_z w16 a.high) (f j) ≡ false) l.i l.invariant.1 (looked (goal.at.loop-i-preserved c).After-sample-z ∙ c.if-low-z.false))
+    all_next (λ j. bits_between (of_z w16 a.low) (of_z w16 a.high) (f j) ≡ false) l.i l.invariant (looked (goal.at.loop-i-preserved c).After-sample-z ∙ c.if-low-z.false)
 
 pub returns : goal.returns
 returns c =
@@ -60,5 +60,5 @@ returns c =
     record {
       within = omega arith;
       passes = λ h. absurd (omega arith);
-      fails = λ j h. as_lent a.low a.high (f j) c.ranges.low c.ranges.high ∙ l.invariant.1 j (omega arith);
+      fails = λ j h. as_lent a.low a.high (f j) c.ranges.low c.ranges.high ∙ l.invariant j (omega arith);
     }

@@ -1,14 +1,14 @@
 -- Each turn stores the next sample.
 use mathlib.Core.Path.{◌≡◌, refl, ◌∙◌}
 use mathlib.Core.List.{map}
-use Prim.Native.Nat.{ℕ, ◌+◌, ◌-◌}
+use Prim.Native.Nat.{ℕ, ◌+◌}
 use native.Mathlib.Omega.{arith}
 use lib.IntN.{ℤ}
 use mir.Syntax.{w16}
 use mir.ValLaws.{to_z-of_z}
 use borrow.Author.Rules.{rules}
 use Rattle.rules.specs.Numbers.{up_from}
-use Rattle.fills.specs.Fills.{sample_at, over}
+use Rattle.fills.specs.Fills.{sample_at}
 use Rattle.fills.proofs.Sampling.{fewer, counted}
 use Rattle.fills.proofs.Writes.{over_none, over-whole, length_map_up, map-one}
 use Rattle.fills.proofs.samples.read_samples.Goals as goal

@@ -2,14 +2,12 @@
 use mathlib.Core.Path.{◌≡◌, sym, ap, ◌∙◌}
 use Prim.Native.Nat.{ℕ, ◌+◌, ◌*◌}
 use native.Mathlib.Omega.{arith}
-use lib.Dec.{lit≤}
 use lib.ListN.{take, drop}
 use lib.IntN.{ℤ}
 use mir.Syntax.{w8, w16}
 use mir.ValLaws.{to_z-of_z}
 use Rattle.rules.specs.Numbers.{number, signed}
 use Rattle.fills.specs.Fills.{sample_at}
-use Rattle.scale.proofs.Samples.{cast_fits, cast_same}
 use Rattle.fills.proofs.Sampling.{counted, words}
 use Rattle.fills.proofs.samples.sample.Goals as goal
 
@@ -19,16 +17,15 @@ overflow_add-from c = omega (arith, counted c.requires)
 pub u8_at-b-requires : goal.u8_at-b-requires
 u8_at-b-requires c = omega (arith, counted c.requires)
 
-pub overflow_cast-result : goal.overflow_cast-result
-overflow_cast-result c = cast_fits w8 w16 c.signed8.result (record { sfits = c.signed8.type_inv }) (lit≤ tt)
-
 pub returns-then-size-eq1 : goal.returns-then-size-eq1
 returns-then-size-eq1 c =
     let a = c.args in
     let n = c.u8_at-b in
     let s = a.block.now in
     let e : a.k ≡ a.k * 1 = omega arith in
-    cast_same w8 w16 c.signed8.result (record { sfits = c.signed8.type_inv }) (lit≤ tt)
+    to_z-of_z w16 c.from.result (record { sfits = c.from.type_inv })
+    ∙ c.from.ensures
+    ∙ to_z-of_z w8 c.signed8.result (record { sfits = c.signed8.type_inv })
     ∙ c.signed8.ensures
     ∙ ap (λ (m : ℕ). signed 1 m) (c.u8_at-b.ensures a.order)
     ∙ ap (λ (m : ℕ). signed 1 (number a.order (take 1 (drop (a.from + m) s)))) e

@@ -1,7 +1,7 @@
 -- Each turn stores the next number, which is the same in 32 bits.
 use mathlib.Core.Path.{◌≡◌, sym, subst, ◌∙◌}
 use mathlib.Core.List.{List, map, map-id}
-use Prim.Native.Nat.{ℕ, ◌-◌, ◌^◌, ◌≤◌}
+use Prim.Native.Nat.{ℕ, ◌^◌, ◌≤◌}
 use native.Mathlib.Nat.{le_trans}
 use native.Mathlib.Omega.{arith}
 use lib.Dec.{lit≤}
@@ -10,10 +10,9 @@ use lib.ListN.{length, get_or}
 use lib.Signed.{nat_abs-le}
 use mir.Syntax.{w16, w32}
 use mir.Val.{SFits}
+use mir.ValLaws.{to_z-of_z}
 use borrow.Author.Rules.{rules}
 use Rattle.rules.specs.Numbers.{up_from}
-use Rattle.scale.proofs.Samples.{cast_fits, cast_same}
-use Rattle.fills.specs.Fills.{over}
 use Rattle.fills.proofs.Writes.{over_none, over-whole, length_map_up, all_next, map-one, map-get_or}
 use Rattle.fills.proofs.samples.widen.Goals as goal
 
@@ -21,17 +20,15 @@ pub loop-k-init : goal.loop-k-init
 unfolding up_from
 loop-k-init c = (search rules, over_none c.args.wide.now 0, λ j h. absurd (omega arith))
 
-pub overflow_cast-wide : goal.overflow_cast-wide
-overflow_cast-wide c = cast_fits w16 w32 (get_or c.args.samples.now c.loop-k.k (pos 0)) (record { sfits = c.wide-1.given }) (lit≤ tt)
-
 pub loop-k-preserved : goal.loop-k-preserved
 loop-k-preserved c =
     let a = c.args in
     let l = c.loop-k in
+    let r = c.from in
     let f : ℕ → ℤ = λ j. get_or a.samples.now j (pos 0) in
-    let h : SFits w16 (f l.k) = record { sfits = c.wide-1.given } in (
+    let h : SFits w16 (f l.k) = record { sfits = c.from-arg-1.given } in (
       omega arith,
-      map-one f a.wide.now l.wide 0 0 l.k l.k l.k _ (cast_same w16 w32 (f l.k) h (lit≤ tt)) (omega arith) (omega arith) (omega arith) l.invariant.1,
+      map-one f a.wide.now l.wide 0 0 l.k l.k l.k _ (to_z-of_z w32 r.result (record { sfits = r.type_inv }) ∙ c.from.ensures ∙ to_z-of_z w16 (f l.k) h) (omega arith) (omega arith) (omega arith) l.invariant.1,
       all_next (λ j. nat_abs (f j) ≤ 2 ^ 28) l.k l.invariant.2 (le_trans (nat_abs-le (f l.k) h.sfits) (lit≤ tt)),
     )
 

@@ -15,7 +15,7 @@ returns-then-order-eq0 c =
     let l = a.block.now in
     omega (
       arith,
-      c.turned.ensures,
+      c.swap_bytes.ensures,
       c.u16_at-n.ensures,
       byte a.at,
       byte (a.at + 1),
