@@ -2,7 +2,7 @@
 ghost use Rattle.std.specs.Prelude.{◌≡◌, List, [], ◌∷◌, ◌+◌, ◌<◌, ◌≤◌};
 ghost use Rattle.columns.specs.Columns.{run};
 ghost use Rattle.fills.specs.Fills.{Holds, sample_at};
-ghost use Rattle.tallies.specs.Tallies.{height, extent_of};
+ghost use Rattle.tallies.specs.Tallies.{extent_of};
 
 // Of some samples: the least, the greatest, and how far they are above -32,768 together.
 #[derive(Clone, Copy)]
@@ -19,7 +19,7 @@ pub(crate) fn one(z: i16) -> Extent
     Extent {
         least: z,
         greatest: z,
-        heights: height_of(z) as u64,
+        heights: u64::from(z.abs_diff(i16::MIN)),
     }
 }
 
@@ -45,7 +45,7 @@ pub(crate) fn measure(
         let z = fills::sample(block, from, k, size, order);
         least = least.min(z);
         greatest = greatest.max(z);
-        let h = height_of(z);
+        let h = z.abs_diff(i16::MIN);
         low += h % 256;
         high += h / 256;
     }
@@ -54,11 +54,4 @@ pub(crate) fn measure(
         greatest,
         heights: high as u64 * 256 + low as u64,
     }
-}
-
-// How far a sample is above -32,768.
-fn height_of(z: i16) -> u16
-    ensures { result ≡ height z }
-{
-    (z as i32 + 32768) as u16
 }

@@ -110,13 +110,11 @@ fn many(
     ensures spanned_2 { Spanned (sample_at order size block.now from) a b result }
 {
     let mut t = start;
-    let mut i = a;
-    while i < b {
+    for i in (a..b).step_by(256) {
         let e = b.min(i + 256);
         let x = extents::measure(block, from, i, e, size, order);
         let m = marks::marks_of(block, from, i, e, size, order, x);
         t = join(t, x, m, i);
-        i = e;
     }
     t
 }
