@@ -61,10 +61,10 @@ pub fn judged(o: Opened, array: u32, segment: u32, columns: u32, low: usize, hig
     if number != 0 {
         return number;
     }
-    if !((1 <= columns) & (columns <= o.points)) {
+    if !(1..=o.points).contains(&columns) {
         return 11;
     }
-    if !((columns as usize <= low) & (columns as usize <= high)) {
+    if low.min(high) < columns as usize {
         return 13;
     }
     0

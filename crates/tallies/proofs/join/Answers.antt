@@ -12,7 +12,7 @@ use Rattle.std.specs.Int.{int_min, int_max}
 use Rattle.tallies.specs.declared.Tally.{Tally}
 use Rattle.tallies.specs.declared.extents.Extent.{Extent}
 use Rattle.tallies.specs.Tallies.{together}
-use Rattle.tallies.proofs.Picking.{read, lesser_read, greater_read}
+use Rattle.tallies.proofs.Picking.{greater_turned, read, lesser_read, greater_read}
 use Rattle.tallies.proofs.join.Goals as goal
 
 -- each of these numbers is one of 16 bits
@@ -23,7 +23,7 @@ record Fitting (t : Tally) (e : Extent) (low high top : ℤ) : Type 0 where
 
 -- the tally whose top was found to be below the greatest, or not
 module _ (t : Tally) (e : Extent) (marks at : ℕ) (low high top : ℤ) (f : Fitting t e low high top) where
-  joined : low ≡ int_min (read t.least) (read e.least) → high ≡ int_max (read t.greatest) (read e.greatest) → top ≡ int_max (read t.top) (read e.greatest) → (b : Bool) → lt_z (read t.top) (read e.greatest) ≡ b
+  joined : low ≡ int_min (read t.least) (read e.least) → high ≡ int_max (read t.greatest) (read e.greatest) → top ≡ int_max (read e.greatest) (read t.top) → (b : Bool) → lt_z (read t.top) (read e.greatest) ≡ b
       → ◌≡◌ {A = Tally} (record { least = read low; greatest = read high; heights = t.heights + e.heights; marks = t.marks + marks; top = read top; near = cond b at t.near }) (together t e marks at)
   joined el eh et b q =
       let near = sym q ∙ ap₂ lt_z (to_z-of_z w16 t.top f.tops.0) (to_z-of_z w16 e.greatest f.greatests.1) in
@@ -32,7 +32,7 @@ module _ (t : Tally) (e : Extent) (marks at : ℕ) (low high top : ℤ) (f : Fit
         greatest = greater_read t.greatest e.greatest high f.greatests.0 f.greatests.1 f.greatests.2 eh i;
         heights = t.heights + e.heights;
         marks = t.marks + marks;
-        top = greater_read t.top e.greatest top f.tops.0 f.greatests.1 f.tops.1 et i;
+        top = (greater_read e.greatest t.top top f.greatests.1 f.tops.0 f.tops.1 et ∙ greater_turned e.greatest t.top) i;
         near = cond (near i) at t.near;
       }
 
