@@ -1,5 +1,6 @@
 pub mod Refusals
 pub mod Twos
+pub mod Written
 pub mod Telling
 pub mod Strips
 pub mod Calls

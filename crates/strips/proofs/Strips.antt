@@ -16,7 +16,7 @@ use lib.Signed.{le_z, mag}
 use borrow.Author.Tests.{leb-true, le-leb}
 use Rattle.rules.specs.Numbers.{Bytes, equal, up_from}
 use Rattle.rules.specs.Wave.{size_of, segments, points, array_count}
-use Rattle.rules.specs.Rules.{first, rules, refusal, opened}
+use Rattle.rules.specs.Rules.{rules, refusal, opened}
 use Rattle.rules.specs.Points.{array, sample, mark_count_of, mark_count, segment_rules, point_refusal}
 use Rattle.rules.proofs.Tests.{Held, first_held, held_first, held_append, held_left, held_right, numbered_append}
 use Rattle.rules.proofs.Opened.{obeys, rules_numbered, good-opened, sized-opened, length-payload}

@@ -1,12 +1,15 @@
 -- What a strip answers, and what it leaves in the two slices that it was lent; and its numbers as bytes. Definitions only.
-use Rattle.std.specs.Prelude.{◌≡◌, ℕ, zero, suc, ◌-◌, ◌^◌, List, map, ℤ, pos, negsuc, length}
-use Rattle.rules.specs.Numbers.{all_bytes, unless_refused}
+use Rattle.std.specs.Prelude.{◌≡◌, ℕ, zero, suc, List, ℤ, pos, length}
+use Rattle.rules.specs.Numbers.{unless_refused}
 use Rattle.rules.specs.Rules.{opened}
 use Rattle.fills.specs.Fills.{over}
 use Rattle.block.specs.declared.Opened.{Opened}
 use Rattle.block.specs.Opened.{opened_as}
 use Rattle.strips.specs.Strips.{Strip, strip_of, strip_refusal}
 use Rattle.strips.specs.declared.Drawn.{Drawn}
+-- as bytes: eight for each number, two's complement, the high byte first
+unfoldable pub use Rattle.rules.specs.Numbers.{unsigned}
+pub use Rattle.rules.specs.Numbers.{signed_bytes}
 
 -- of a refused call its number and zeros; and else what a strip says of all samples
 abbrev pub refused_strip : ℕ → Drawn
@@ -26,16 +29,6 @@ leasts_left s a n w out high = unless_refused (strip_refusal s a n w (length out
 
 unfoldable pub greatests_left : List ℕ → ℕ → ℕ → ℕ → ℕ → List ℤ → List ℤ
 greatests_left s a n w low out = unless_refused (strip_refusal s a n w low (length out)) (over out 0 (strip_of (opened s) a n w).greatests) out
-
--- ---- as bytes: eight for each number, two's complement, the high byte first
-
--- the number of w bytes that is read as the signed one
-unfoldable pub unsigned : ℕ → ℤ → ℕ
-unsigned w (pos n) = n
-unsigned w (negsuc n) = 256 ^ w - suc n
-
-abbrev pub signed_bytes : List ℤ → List ℕ
-signed_bytes zs = all_bytes 0 8 (map (unsigned 8) zs)
 
 -- ---- what the helpers hand on
 

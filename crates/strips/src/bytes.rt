@@ -3,7 +3,7 @@ ghost use Rattle.std.specs.Prelude.{◌≡◌, ◌/◌, length};
 ghost use Rattle.rules.specs.Rules.{opened};
 ghost use Rattle.fills.specs.Fills.{over};
 ghost use Rattle.strips.specs.Strips.{strip_of};
-ghost use Rattle.strips.specs.Answers.{drawn_by, signed_bytes, Drawable};
+ghost use Rattle.strips.specs.Answers.{drawn_by, unsigned as unsigned_in, signed_bytes, Drawable};
 
 use crate::Drawn;
 use block::Opened;
@@ -23,10 +23,12 @@ pub fn put_columns(
     ensures least_after { least.new ≡ over least.old 0 (signed_bytes (strip_of (opened block.now) array segment columns).leasts) }
     ensures greatest_after { greatest.new ≡ over greatest.old 0 (signed_bytes (strip_of (opened block.now) array segment columns).greatests) }
 {
-    let from = points::samples_from(o, array, segment);
-    let count = o.points as usize;
-    let size = o.kind as usize + 1;
-    let w = columns as usize;
-    let t = crate::drawing::put(block, from, count, size, o.order, w, least, greatest);
-    crate::told(block, from, count, size, o.order, t)
+    crate::columns_of(block, o, array, segment, columns, least, greatest)
+}
+
+// The number of eight bytes that is read as the signed one.
+pub fn unsigned(z: i64) -> u64
+    ensures { result ≡ unsigned_in 8 z }
+{
+    numbers::unsigned(z)
 }

@@ -1,99 +1,64 @@
 // The columns one after another: the least and the greatest sample of each, as numbers or as bytes, and the tally of all samples.
-ghost use Rattle.std.specs.Prelude.{◌≡◌, ◌*◌, ◌≤◌, length};
+ghost use Rattle.std.specs.Prelude.{◌≡◌, ◌*◌, ◌≤◌, length, map};
+ghost use mathlib.Core.List.{flatten};
 ghost use Rattle.columns.specs.Columns.{lesser, greater, start, columns as columns_of};
 ghost use Rattle.fills.specs.Fills.{Holds, sample_at, over};
 ghost use Rattle.tallies.specs.Tallies.{Seen};
-ghost use Rattle.strips.specs.Answers.{signed_bytes};
 
+use crate::elements::Element;
 use tallies::Tally;
 
-// Each column's numbers at the start of lows and of highs.
-pub(crate) fn draw(
+// Each column's numbers at the start of lows and of highs. A byte is the same number in every order. The two sizes have a call each: so the
+// compiler keeps the loop as a function of its own, and what that takes of the stack is not there while the block is opened.
+pub(crate) fn draw<T: Element>(
     block: &[u8],
     from: usize,
     count: usize,
     size: usize,
     order: u32,
     columns: usize,
-    lows: &mut [i16],
-    highs: &mut [i16],
+    lows: &mut [T],
+    highs: &mut [T],
 ) -> Tally
     requires holds { Holds block.now from count size }
     requires le_columns { (1 ≤ columns) × (columns ≤ count) × (count ≤ 16777216) }
-    requires columns_in_bounds { (columns ≤ length lows.old) × (columns ≤ length highs.old) }
+    requires columns_in_bounds { (columns * T.width ≤ length lows.old) × (columns * T.width ≤ length highs.old) }
     ensures seen { Seen size (sample_at order size block.now from) count result }
-    ensures lows_after { lows.new ≡ over lows.old 0 (columns_of lesser (sample_at order size block.now from) count columns) }
-    ensures highs_after { highs.new ≡ over highs.old 0 (columns_of greater (sample_at order size block.now from) count columns) }
-{
-    let mut t = tallies::none();
-    let mut a = 0;
-    let mut q = 0;
-    while q < columns {
-        let b = boundary(count, columns, q + 1);
-        t = tallies::column(block, from, a, b, size, order, t);
-        let least = t.least;
-        let greatest = t.greatest;
-        lows[q] = least;
-        highs[q] = greatest;
-        a = b;
-        q += 1;
-    }
-    t
-}
-
-// Each column's numbers at the start of lows and of highs, eight bytes each. A byte is the same number in every order. The two sizes have a call
-// each: so the compiler keeps the loop as a function of its own, and what that takes of the stack is not there while the block is opened.
-pub(crate) fn put(
-    block: &[u8],
-    from: usize,
-    count: usize,
-    size: usize,
-    order: u32,
-    columns: usize,
-    lows: &mut [u8],
-    highs: &mut [u8],
-) -> Tally
-    requires holds { Holds block.now from count size }
-    requires le_columns { (1 ≤ columns) × (columns ≤ count) × (count ≤ 16777216) }
-    requires columns_in_bounds { (columns * 8 ≤ length lows.old) × (columns * 8 ≤ length highs.old) }
-    ensures seen { Seen size (sample_at order size block.now from) count result }
-    ensures lows_after { lows.new ≡ over lows.old 0 (signed_bytes (columns_of lesser (sample_at order size block.now from) count columns)) }
-    ensures highs_after { highs.new ≡ over highs.old 0 (signed_bytes (columns_of greater (sample_at order size block.now from) count columns)) }
+    ensures lows_after { lows.new ≡ over lows.old 0 (flatten (map T.written (columns_of lesser (sample_at order size block.now from) count columns))) }
+    ensures highs_after { highs.new ≡ over highs.old 0 (flatten (map T.written (columns_of greater (sample_at order size block.now from) count columns))) }
 {
     if size == 1 {
-        return put_each(block, from, count, 1, 0, columns, lows, highs);
+        return draw_each(block, from, count, 1, 0, columns, lows, highs);
     }
-    put_each(block, from, count, 2, order, columns, lows, highs)
+    draw_each(block, from, count, 2, order, columns, lows, highs)
 }
 
 // The columns' numbers, one column after the other.
-fn put_each(
+fn draw_each<T: Element>(
     block: &[u8],
     from: usize,
     count: usize,
     size: usize,
     order: u32,
     columns: usize,
-    lows: &mut [u8],
-    highs: &mut [u8],
+    lows: &mut [T],
+    highs: &mut [T],
 ) -> Tally
     requires holds { Holds block.now from count size }
     requires le_columns { (1 ≤ columns) × (columns ≤ count) × (count ≤ 16777216) }
-    requires columns_in_bounds { (columns * 8 ≤ length lows.old) × (columns * 8 ≤ length highs.old) }
+    requires columns_in_bounds { (columns * T.width ≤ length lows.old) × (columns * T.width ≤ length highs.old) }
     ensures seen { Seen size (sample_at order size block.now from) count result }
-    ensures lows_after { lows.new ≡ over lows.old 0 (signed_bytes (columns_of lesser (sample_at order size block.now from) count columns)) }
-    ensures highs_after { highs.new ≡ over highs.old 0 (signed_bytes (columns_of greater (sample_at order size block.now from) count columns)) }
+    ensures lows_after { lows.new ≡ over lows.old 0 (flatten (map T.written (columns_of lesser (sample_at order size block.now from) count columns))) }
+    ensures highs_after { highs.new ≡ over highs.old 0 (flatten (map T.written (columns_of greater (sample_at order size block.now from) count columns))) }
 {
     let mut t = tallies::none();
     let mut a = 0;
-    let mut q = 0;
-    while q < columns {
+    for q in 0..columns {
         let b = boundary(count, columns, q + 1);
         t = tallies::column(block, from, a, b, size, order, t);
-        crate::signs::put_signed(t.least, lows, q * 8);
-        crate::signs::put_signed(t.greatest, highs, q * 8);
+        T::put(t.least, q, lows);
+        T::put(t.greatest, q, highs);
         a = b;
-        q += 1;
     }
     t
 }

@@ -4,9 +4,10 @@
 
 mod bytes;
 mod drawing;
-mod signs;
+mod elements;
 
-ghost use Rattle.std.specs.Prelude.{◌≡◌, List, ℕ, ◌≤◌, length};
+ghost use Rattle.std.specs.Prelude.{◌≡◌, List, ℕ, ◌/◌, ◌≤◌, length, map};
+ghost use mathlib.Core.List.{flatten};
 ghost use Rattle.rules.specs.Rules.{opened};
 ghost use Rattle.block.specs.Opened.{opened_as};
 ghost use Rattle.fills.specs.Fills.{Holds, sample_at, over};
@@ -15,8 +16,8 @@ ghost use Rattle.strips.specs.Strips.{strip as strip_in, strip_of, strip_refusal
 ghost use Rattle.strips.specs.Answers.{refused_strip, drawn_by, drawn_as, leasts_left, greatests_left, Drawable};
 
 use block::Opened;
-pub use bytes::put_columns;
-pub use signs::unsigned;
+pub use bytes::{put_columns, unsigned};
+use elements::Element;
 use tallies::Tally;
 
 // 0, the sum of all samples, how many stand at the rail, and the first point that holds the greatest; or the number of the refusal and zeros.
@@ -60,29 +61,29 @@ pub fn judged(o: Opened, array: u32, segment: u32, columns: u32, low: usize, hig
     if number != 0 {
         return number;
     }
-    if !((1 <= columns) & (columns <= o.points)) {
+    if !(1..=o.points).contains(&columns) {
         return 11;
     }
-    if !((columns as usize <= low) & (columns as usize <= high)) {
+    if low.min(high) < columns as usize {
         return 13;
     }
     0
 }
 
 // A strip that is not refused.
-fn columns_of(
+fn columns_of<T: Element>(
     block: &[u8],
     o: Opened,
     array: u32,
     segment: u32,
     columns: u32,
-    least: &mut [i16],
-    greatest: &mut [i16],
+    least: &mut [T],
+    greatest: &mut [T],
 ) -> Drawn
-    requires { Drawable block.now o array segment columns (length least.old) (length greatest.old) }
+    requires { Drawable block.now o array segment columns (length least.old / T.width) (length greatest.old / T.width) }
     ensures value { result ≡ drawn_by 0 (strip_of (opened block.now) array segment columns) }
-    ensures least_after { least.new ≡ over least.old 0 (strip_of (opened block.now) array segment columns).leasts }
-    ensures greatest_after { greatest.new ≡ over greatest.old 0 (strip_of (opened block.now) array segment columns).greatests }
+    ensures least_after { least.new ≡ over least.old 0 (flatten (map T.written (strip_of (opened block.now) array segment columns).leasts)) }
+    ensures greatest_after { greatest.new ≡ over greatest.old 0 (flatten (map T.written (strip_of (opened block.now) array segment columns).greatests)) }
 {
     let from = points::samples_from(o, array, segment);
     let count = o.points as usize;

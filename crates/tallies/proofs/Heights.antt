@@ -1,16 +1,15 @@
 -- How far samples are above −32,768: of two runs together (`heights_append`), of one more, by its bytes (`bytes_next`), bounded by how many there are
--- (`heights_few`), as the code works one out (`height_cast`), and the sum of the samples from it (`sum-from`).
-use mathlib.Core.Path.{◌≡◌, refl, sym, ap, ap₂, ◌∙◌, subst}
+-- (`heights_few`), as the code works one out (`height_apart`), and the sum of the samples from it (`sum-from`).
+use mathlib.Core.Path.{◌≡◌, refl, sym, ap, ap₂, ◌∙◌}
 use Prim.Native.Nat.{ℕ, zero, suc, ◌+◌, ◌-◌, ◌*◌, ◌/◌, ◌%◌, ◌^◌, ◌≤◌, ◌<◌}
-use native.Mathlib.Nat.{add_assoc, zero-add, suc-mul, lt_of_lt_of_le}
+use native.Mathlib.Nat.{add_assoc, zero-add, suc-mul}
 use native.Mathlib.Omega.{arith}
 use mathlib.Core.List.{List, [], ◌∷◌, ◌++◌, map}
 use mathlib.Core.Bool.{Bool, cond}
 use lib.IntN.{ℤ, pos, negsuc, nat_abs, ◌+ℤ◌, ◌-ℤ◌, +ℤ_assoc, +ℤ_comm, +ℤ-neg_ℤ_cancel}
-use lib.Dec.{T, lit≤}
-use lib.Signed.{mag, non_neg}
-use mir.Syntax.{w16, w32}
-use mir.Val.{Fits, SFits, hbits, to_z, of_z}
+use lib.Signed.{mag}
+use mir.Syntax.{w16}
+use mir.Val.{SFits, to_z, of_z}
 use mir.ValLaws.{to_z-of_z}
 use borrow.Author.Tests.{le-ltb}
 use Rattle.rules.specs.Numbers.{up_from}
@@ -60,31 +59,9 @@ height_is (negsuc n) h =
     let e : 32767 - n ≡ 32768 - suc n = omega arith in
     ap pos e ∙ sym (ap (λ (t : Bool). cond t (negsuc (suc n - suc 32768)) (pos (32768 - suc n))) (le-ltb 32768 (suc n) (omega (arith, h))))
 
--- worked out in 32 bits and cast to 16
-module _ (z : ℤ) (h : SFits w16 z) where
-  abbrev pub wide : ℤ
-  wide = to_z w16 (of_z w16 z)
-
-  abbrev pub up : ℤ
-  up = to_z w32 (of_z w32 wide) +ℤ pos 32768
-
-  pub wide_fits : SFits w32 wide
-  wide_fits = record { sfits = subst (λ (x : ℤ). mag x < 2 ^ hbits w32) (sym (to_z-of_z w16 z h)) (lt_of_lt_of_le h.sfits (lit≤ tt)) }
-
-  up_is : up ≡ pos (height z)
-  up_is = ap (λ (x : ℤ). x +ℤ pos 32768) (to_z-of_z w32 wide wide_fits ∙ to_z-of_z w16 z h) ∙ sym (height_is z h.sfits)
-
-  pub up_fits : SFits w32 up
-  up_fits = record { sfits = subst (λ (x : ℤ). mag x < 2 ^ hbits w32) (sym up_is) (lt_of_lt_of_le (height-most z h.sfits) (lit≤ tt)) }
-
-  back : to_z w32 (of_z w32 up) ≡ pos (height z)
-  back = to_z-of_z w32 up up_fits ∙ up_is
-
-  pub height-fits : T (non_neg (to_z w32 (of_z w32 up))) × Fits w16 (nat_abs (to_z w32 (of_z w32 up)))
-  height-fits = (subst (λ (x : ℤ). T (non_neg x)) (sym back) tt, subst (λ (x : ℤ). Fits w16 (nat_abs x)) (sym back) (record { fits = height-most z h.sfits }))
-
-  pub height_cast : nat_abs (to_z w32 (of_z w32 up)) ≡ height z
-  height_cast = ap nat_abs back
+-- as the code works it out
+pub height_apart : (z : ℤ) → SFits w16 z → nat_abs (to_z w16 (of_z w16 z) -ℤ negsuc 32767) ≡ height z
+height_apart z h = ap (λ (x : ℤ). nat_abs (x -ℤ negsuc 32767)) (to_z-of_z w16 z h) ∙ ap nat_abs (sym (height_is z h.sfits))
 
 -- two sums of two, taken the other way
 across : (a b c d : ℤ) → a +ℤ b +ℤ (c +ℤ d) ≡ a +ℤ c +ℤ (b +ℤ d)

@@ -1,3 +1,4 @@
 pub mod Heights
+pub mod Picking
 pub mod Tallying
 pub mod Rails

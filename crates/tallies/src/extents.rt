@@ -1,8 +1,8 @@
 // The least and the greatest of some samples, and how far they are above -32,768 together.
 ghost use Rattle.std.specs.Prelude.{◌≡◌, List, [], ◌∷◌, ◌+◌, ◌<◌, ◌≤◌};
-ghost use Rattle.columns.specs.Columns.{lesser as lesser_of, greater as greater_of, run};
+ghost use Rattle.columns.specs.Columns.{run};
 ghost use Rattle.fills.specs.Fills.{Holds, sample_at};
-ghost use Rattle.tallies.specs.Tallies.{height, extent_of};
+ghost use Rattle.tallies.specs.Tallies.{extent_of};
 
 // Of some samples: the least, the greatest, and how far they are above -32,768 together.
 #[derive(Clone, Copy)]
@@ -19,7 +19,7 @@ pub(crate) fn one(z: i16) -> Extent
     Extent {
         least: z,
         greatest: z,
-        heights: height_of(z) as u64,
+        heights: u64::from(z.abs_diff(i16::MIN)),
     }
 }
 
@@ -37,50 +37,21 @@ pub(crate) fn measure(
     requires a_lt_b { (a < b) × (b ≤ a + 256) }
     ensures { result ≡ extent_of (run (sample_at order size block.now from) a b) }
 {
-    let mut least: i16 = 32767;
-    let mut greatest: i16 = -32768;
+    let mut least = i16::MAX;
+    let mut greatest = i16::MIN;
     let mut low: u16 = 0;
     let mut high: u16 = 0;
-    let mut k = a;
-    while k < b {
+    for k in a..b {
         let z = fills::sample(block, from, k, size, order);
-        least = lesser(least, z);
-        greatest = greater(greatest, z);
-        let h = height_of(z);
-        low = low + h % 256;
-        high = high + h / 256;
-        k += 1;
+        least = least.min(z);
+        greatest = greatest.max(z);
+        let h = z.abs_diff(i16::MIN);
+        low += h % 256;
+        high += h / 256;
     }
     Extent {
         least,
         greatest,
         heights: high as u64 * 256 + low as u64,
     }
-}
-
-// How far a sample is above -32,768.
-fn height_of(z: i16) -> u16
-    ensures { result ≡ height z }
-{
-    (z as i32 + 32768) as u16
-}
-
-// The lesser of two.
-pub(crate) fn lesser(x: i16, y: i16) -> i16
-    ensures { result ≡ lesser_of x y }
-{
-    if x <= y {
-        return x;
-    }
-    y
-}
-
-// The greater of two.
-pub(crate) fn greater(x: i16, y: i16) -> i16
-    ensures { result ≡ greater_of x y }
-{
-    if x <= y {
-        return y;
-    }
-    x
 }

@@ -5,11 +5,10 @@
 mod extents;
 mod marks;
 
-ghost use Rattle.std.specs.Prelude.{◌≡◌, cond, ℕ, ◌+◌, ◌-◌, ◌^◌, ◌<◌, ◌≤◌};
-ghost use Rattle.std.specs.Int.Signed.{lt_z};
+ghost use Rattle.std.specs.Prelude.{◌≡◌, ◌+◌, ◌^◌, ◌<◌, ◌≤◌};
 ghost use Rattle.columns.specs.Columns.{least, greatest, run};
 ghost use Rattle.fills.specs.Fills.{Holds, sample_at};
-ghost use Rattle.tallies.specs.Tallies.{nothing, fresh, together, end, Seen, Spanned};
+ghost use Rattle.tallies.specs.Tallies.{nothing, together, Seen, Spanned};
 
 use extents::Extent;
 
@@ -30,11 +29,11 @@ pub fn none() -> Tally
     ensures { result ≡ nothing }
 {
     Tally {
-        least: 32767,
-        greatest: -32768,
+        least: i16::MAX,
+        greatest: i16::MIN,
         heights: 0,
         marks: 0,
-        top: -32768,
+        top: i16::MIN,
         near: 0,
     }
 }
@@ -56,25 +55,15 @@ pub fn column(
     ensures greatest_value { result.greatest ≡ greatest (run (sample_at order size block.now from) a b) }
     ensures seen_2 { Seen size (sample_at order size block.now from) b result }
 {
-    let t = anew(before);
+    let t = Tally {
+        least: i16::MAX,
+        greatest: i16::MIN,
+        ..before
+    };
     if b - a < 8 {
         return few(block, from, a, b, size, order, t);
     }
     many(block, from, a, b, size, order, t)
-}
-
-// The same of all samples so far, and a column of none.
-fn anew(t: Tally) -> Tally
-    ensures { result ≡ fresh t }
-{
-    Tally {
-        least: 32767,
-        greatest: -32768,
-        heights: t.heights,
-        marks: t.marks,
-        top: t.top,
-        near: t.near,
-    }
 }
 
 // With the points from a up to but not including b more, one by one.
@@ -95,12 +84,10 @@ fn few(
     ensures spanned_2 { Spanned (sample_at order size block.now from) a b result }
 {
     let mut t = start;
-    let mut k = a;
-    while k < b {
+    for k in a..b {
         let z = fills::sample(block, from, k, size, order);
-        let mark = fills::mark_number(fills::at_rail(z, size)) as u32;
+        let mark = u32::from(fills::at_rail(z, size));
         t = join(t, extents::one(z), mark, k);
-        k += 1;
     }
     t
 }
@@ -123,9 +110,10 @@ fn many(
     ensures spanned_2 { Spanned (sample_at order size block.now from) a b result }
 {
     let mut t = start;
+    // By a range in steps (`step_by`) it was tried, and took 18 instructions more for each 256 points.
     let mut i = a;
     while i < b {
-        let e = end_of(i, b);
+        let e = b.min(i + 256);
         let x = extents::measure(block, from, i, e, size, order);
         let m = marks::marks_of(block, from, i, e, size, order, x);
         t = join(t, x, m, i);
@@ -134,42 +122,18 @@ fn many(
     t
 }
 
-// Where 256 points from a on end, or b where that is before.
-fn end_of(a: usize, b: usize) -> usize
-    requires { a ≤ b }
-    ensures { result ≡ end a b }
-{
-    if b - a <= 256 {
-        return b;
-    }
-    a + 256
-}
-
-// A tally with the samples of an extent more, which start with the one numbered `at`.
+// A tally with the samples of an extent more, which start with the one numbered `at`: from there on the greatest is to be looked for where it is
+// greater than all before. The greatest of all has theirs first: so the loop over fewer than eight points keeps it in its register.
 fn join(t: Tally, e: Extent, marks: u32, at: usize) -> Tally
     requires { (t.heights + e.heights < 2 ^ 64) × (t.marks + marks < 2 ^ 32) }
     ensures { result ≡ together t e marks at }
 {
-    let least = extents::lesser(t.least, e.least);
-    let greatest = extents::greater(t.greatest, e.greatest);
-    let top = extents::greater(t.top, e.greatest);
-    let near = nearer(t.top, e.greatest, t.near, at);
     Tally {
-        least,
-        greatest,
+        least: t.least.min(e.least),
+        greatest: t.greatest.max(e.greatest),
         heights: t.heights + e.heights,
         marks: t.marks + marks,
-        top,
-        near,
+        top: e.greatest.max(t.top),
+        near: if t.top < e.greatest { at } else { t.near },
     }
-}
-
-// From where on the greatest is to be looked for: from `at` on where it is greater than all before.
-fn nearer(top: i16, greatest: i16, near: usize, at: usize) -> usize
-    ensures { result ≡ cond (lt_z top greatest) at near }
-{
-    if top < greatest {
-        return at;
-    }
-    near
 }

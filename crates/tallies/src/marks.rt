@@ -35,11 +35,9 @@ fn count_marks(block: &[u8], from: usize, a: usize, b: usize, size: usize, order
     ensures { result ≡ mark_count_of size (run (sample_at order size block.now from) a b) }
 {
     let mut n: u16 = 0;
-    let mut k = a;
-    while k < b {
+    for k in a..b {
         let z = fills::sample(block, from, k, size, order);
-        n = n + fills::mark_number(fills::at_rail(z, size));
-        k += 1;
+        n += u16::from(fills::at_rail(z, size));
     }
-    n as u32
+    u32::from(n)
 }

@@ -16,7 +16,8 @@ use Rattle.columns.specs.Columns.{lesser, greater, joined, least, greatest, run}
 use Rattle.columns.proofs.Extremes.{Picks, picks_lesser, picks_greater, ge_ℤ}
 use Rattle.columns.proofs.Runs.{run_none, run-one}
 use Rattle.tallies.specs.Tallies.{height, heights}
-use Rattle.tallies.proofs.Heights.{Words, bytes_next}
+use Rattle.tallies.proofs.Heights.{Words, height_apart, bytes_next}
+use Rattle.tallies.proofs.Picking.{lesser_is, greater_is}
 use Rattle.tallies.proofs.Tallying.{first_next, least_of, greatest_of}
 use Rattle.tallies.proofs.extents.measure.Goals as goal
 use Rattle.tallies.proofs.extents.measure.Goals.{At-loop-k}
@@ -42,7 +43,7 @@ overflow_add-low c = let l = c.loop-k in omega (arith, l.invariant.5, l.invarian
 pub overflow_add-high : goal.overflow_add-high
 overflow_add-high c =
     let l = c.loop-k in
-    omega (arith, l.invariant.6, l.invariant.0, c.loop-k-test.true, c.requires.a_lt_b.1, c.height_of-h.type_inv)
+    omega (arith, l.invariant.6, l.invariant.0, c.loop-k-test.true, c.requires.a_lt_b.1, c.abs_diff-h.type_inv)
 
 pub loop-k-preserved : goal.loop-k-preserved
 loop-k-preserved c =
@@ -52,16 +53,16 @@ loop-k-preserved c =
     let r = c.sample-z in
     let f : ℕ → ℤ = sample_at a.order a.size a.block.now a.from in
     let z : to_z w16 (of_z w16 r.result) ≡ f l.k = to_z-of_z w16 r.result (record { sfits = r.type_inv }) ∙ c.sample-z.ensures in
-    let low = c.lesser-least in
-    let high = c.greater-greatest in
+    let low = c.min-least in
+    let high = c.max-greatest in
     let e : (l.k - a.a) * 255 + 255 ≡ (l.k + 1 - a.a) * 255 = omega (arith, l.invariant.0) in (
       omega (arith, l.invariant.0),
       omega (arith, h),
-      next lesser le_z picks_lesser (pos 32767) f a.a l.k l.invariant.0 _ _ low.result (record { sfits = low.type_inv }) c.lesser-least.ensures l.invariant.2 z,
-      next greater ge_ℤ picks_greater (negsuc 32767) f a.a l.k l.invariant.0 _ _ high.result (record { sfits = high.type_inv }) c.greater-greatest.ensures l.invariant.3 z,
-      bytes_next f a.a l.k l.low l.high c.height_of-h.result l.invariant.0 l.invariant.4 (c.height_of-h.ensures ∙ ap height z),
+      next lesser le_z picks_lesser (pos 32767) f a.a l.k l.invariant.0 _ _ low.result (record { sfits = low.type_inv }) (low.ensures.value ∙ lesser_is _ _) l.invariant.2 z,
+      next greater ge_ℤ picks_greater (negsuc 32767) f a.a l.k l.invariant.0 _ _ high.result (record { sfits = high.type_inv }) (high.ensures.value ∙ greater_is _ _) l.invariant.3 z,
+      bytes_next f a.a l.k l.low l.high c.abs_diff-h.result l.invariant.0 l.invariant.4 (c.abs_diff-h.ensures ∙ height_apart r.result (record { sfits = r.type_inv }) ∙ ap height c.sample-z.ensures),
       omega (arith, l.invariant.5, e),
-      omega (arith, l.invariant.6, e, c.height_of-h.type_inv),
+      omega (arith, l.invariant.6, e, c.abs_diff-h.type_inv),
     )
 
 -- both sums fit 16 bits
