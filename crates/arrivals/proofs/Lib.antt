@@ -1,4 +1,3 @@
-pub mod Choices
 pub mod Beside
 pub mod Meeting
 pub mod Turns

@@ -24,13 +24,12 @@ pub struct Judged {
 pub fn judge(parts: &[u8]) -> Judged
     ensures { Judges parts.now result }
 {
-    if parts.len() < 1 {
+    if parts.is_empty() {
         return refused(16);
     }
     let first = parts::part_at(parts, 0);
-    let number = first.refusal;
-    if number != 0 {
-        return refused(number);
+    if first.refusal != 0 {
+        return refused(first.refusal);
     }
     meet(parts, first)
 }
@@ -50,14 +49,13 @@ fn meet(parts: &[u8], first: Part) -> Judged
     let mut here = first.end;
     while here < parts.len() {
         let part = parts::part_at(parts, here);
-        let number = part.refusal;
-        if number != 0 {
-            return refused(number);
+        if part.refusal != 0 {
+            return refused(part.refusal);
         }
         let k = part.index as usize;
         let fits = belongs(parts, lead, part.start, text, &seen, k);
         note(&mut seen, k, fits);
-        together = together & fits;
+        together &= fits;
         count += 1;
         here = part.end;
     }
@@ -87,7 +85,7 @@ fn text_length(parts: &[u8], lead: usize) -> usize
 fn is_index(k: usize) -> bool
     ensures { result ≡ index? k }
 {
-    (1 <= k) & (k <= 1000)
+    (1..=1000).contains(&k)
 }
 
 // Notes an index k where it is a new one.
@@ -96,10 +94,9 @@ fn note(seen: &mut [u64], k: usize, new: bool)
     requires k_bound { new ≡ true → (k < 1024) × (seen_of seen.old k ≡ 0) }
     ensures { new ≡ true → (j : ℕ) → seen_of seen.new j ≡ cond (eqb j k) 1 (seen_of seen.old j) }
 {
-    if !new {
-        return;
+    if new {
+        seen::add(seen, k);
     }
-    seen::add(seen, k);
 }
 
 // Whether the part whose payload starts at `start` belongs to those before it, by its index k, its descriptor and its user text.
@@ -108,13 +105,7 @@ fn belongs(parts: &[u8], lead: usize, start: usize, text: usize, seen: &[u64], k
     requires seen_len { length seen.now ≡ 16 }
     ensures { result ≡ belongs? parts.now lead start text seen.now k }
 {
-    if !is_index(k) {
-        return false;
-    }
-    if seen::has(seen, k) {
-        return false;
-    }
-    are_alike(parts, lead, start, text)
+    is_index(k) && !seen::has(seen, k) && are_alike(parts, lead, start, text)
 }
 
 // Whether the descriptors whose payloads start at lead and at start are the same but for SEGMENT_INDEX, and the user texts.
@@ -122,13 +113,9 @@ fn are_alike(parts: &[u8], lead: usize, start: usize, text: usize) -> bool
     requires { Comparable parts.now lead start text }
     ensures { result ≡ alike? parts.now lead start text }
 {
-    if !parts::same_bytes(parts, lead, start, 140) {
-        return false;
-    }
-    if !parts::same_bytes(parts, lead + 144, start + 144, 202) {
-        return false;
-    }
-    parts::same_bytes(parts, lead + 346, start + 346, text)
+    parts::same_bytes(parts, lead, start, 140)
+        && parts::same_bytes(parts, lead + 144, start + 144, 202)
+        && parts::same_bytes(parts, lead + 346, start + 346, text)
 }
 
 // The answer of a join that is refused.

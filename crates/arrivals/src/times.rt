@@ -1,5 +1,5 @@
 // Whether the trigger times of parts rise by index. The parts stand in the order in which they came, so the times of 32 indices are gathered at a time.
-ghost use Rattle.std.specs.Prelude.{◌≡◌, ◌+◌, ◌≤◌, min, length, take, drop};
+ghost use Rattle.std.specs.Prelude.{◌≡◌, ◌+◌, ◌≤◌, length, take, drop};
 ghost use Rattle.rules.specs.Rules.{ascending};
 ghost use Rattle.joining.specs.Join.{parts_in};
 ghost use Rattle.arrivals.specs.Arrivals.{Timed, times_at};
@@ -10,10 +10,11 @@ pub fn rise(parts: &[u8], order: u32, long: usize, trig: usize, count: usize) ->
     requires count_value { (count ≡ length (parts_in parts.now)) × (count ≤ 1000) }
     ensures { result ≡ ascending (times_at order trig parts.now) }
 {
-    let mut skip: usize = 0;
+    // A `while`: a range in steps of 31 would have to hold count - 1 at 0 where there is no part.
+    let mut skip = 0;
     while skip + 1 < count {
-        let left = count - skip;
-        if !rise_within(parts, order, long, trig, skip, at_most_32(left)) {
+        let window = (count - skip).min(32);
+        if !rise_within(parts, order, long, trig, skip, window) {
             return false;
         }
         skip += 31;
@@ -37,11 +38,4 @@ fn rise_within(
     let mut times = [0u8; 256];
     parts::place_rows(parts, order, long, trig, 8, skip, count, &mut times, 0);
     block::ascend(&times, 0, 8, count, order)
-}
-
-// n, and 32 where it is more.
-fn at_most_32(n: usize) -> usize
-    ensures { result ≡ min n 32 }
-{
-    if n < 32 { n } else { 32 }
 }

@@ -22,21 +22,18 @@ pub fn part_at(parts: &[u8], at: usize) -> Part
     requires { at < length parts.now }
     ensures { result ≡ part_as parts.now at }
 {
-    let n = parts.len();
-    let header = frames::header_of(&parts[at..n]);
-    if !header.framed {
+    let Some(header) = frames::header_of(&parts[at..]) else {
         return refused(1);
-    }
+    };
     let start = at + header.start;
     let end = start as u64 + header.length;
-    if (n as u64) < end {
+    if (parts.len() as u64) < end {
         return refused(2);
     }
     let to = end as usize;
     let o = block::open(&parts[at..to]);
-    let number = o.refusal;
-    if number != 0 {
-        return refused(number);
+    if o.refusal != 0 {
+        return refused(o.refusal);
     }
     Part {
         refusal: 0,
@@ -63,13 +60,7 @@ pub fn same_bytes(parts: &[u8], a: usize, b: usize, count: usize) -> bool
     requires { (a + count ≤ length parts.now) × (b + count ≤ length parts.now) }
     ensures { result ≡ same (part parts.now a count) (part parts.now b count) }
 {
-    let mut ok = true;
-    let mut i = 0;
-    while i < count {
-        ok = ok & (parts[a + i] == parts[b + i]);
-        i += 1;
-    }
-    ok
+    parts[a..a + count] == parts[b..b + count]
 }
 
 // The bytes from `from` on of each part's payload, `size` of them, at out from `at` on, by index: those of the indices behind `skip`, `count` of them.
@@ -105,10 +96,11 @@ pub fn payload_at(parts: &[u8], at: usize) -> usize
     requires { (at + 11 < length parts.now) × (49 ≤ get_or parts.now (at + 1) 0) × (get_or parts.now (at + 1) 0 ≤ 57) }
     ensures { result ≡ at + payload_start (drop at parts.now) }
 {
-    at + (parts[at + 1] - 46) as usize
+    at + 2 + (parts[at + 1] - b'0') as usize
 }
 
-// The bytes from `from` on, as the row of this index, where it is one of those that are asked for. Eight, as a time has, go in one move.
+// The bytes from `from` on, as the row of this index, where it is one of those that are asked for. Eight, as a time has,
+// go in one move: `copy_from_slice` asks first whether they overlap, and is slower.
 fn place_row(
     parts: &[u8],
     from: usize,

@@ -1,6 +1,6 @@
 -- The first part is met, then one more at each turn; a bad one ends the loop.
 use mathlib.Core.Path.{◌≡◌, refl, sym, ap, ◌∙◌}
-use Prim.Native.Nat.{◌+◌, ◌-◌}
+use Prim.Native.Nat.{◌+◌}
 use native.Mathlib.Omega.{arith}
 use mathlib.Core.Bool.{◌&&◌}
 use mathlib.Core.List.{[]}
@@ -17,7 +17,7 @@ use Rattle.parts.proofs.Standing.{part-number, part-good, reach, some_bytes}
 use Rattle.arrivals.proofs.Meeting.{met_bad}
 use Rattle.arrivals.proofs.Turns.{index-says, fresh-says, first_is, first_met, this_comparable, next_met, refused_judges, many_apart, apart, met_judges}
 use Rattle.arrivals.proofs.meet.Goals as goal
-use Rattle.arrivals.proofs.meet.Goals.{After-shared_slice_known-1, Else-number-ne0}
+use Rattle.arrivals.proofs.meet.Goals.{After-shared_slice_known-1, Else-part-ne0}
 
 bytes : (c : After-shared_slice_known-1) → Bytes c.args.parts.now
 bytes c = below-index 256 c.args.parts.now (λ i h. (c.type_inv.parts i).fits)
@@ -39,18 +39,18 @@ end_is : (c : After-shared_slice_known-1) → let a = c.args in a.first.end ≡ 
 end_is c = ap (λ (p : Part). p.end) (first-answer c)
 
 -- what is known of the part of a turn
-part-answer : (c : Else-number-ne0) → let l = c.loop-here in let a = c.args in
+part-answer : (c : Else-part-ne0) → let l = c.loop-here in let a = c.args in
     c.part_at-part.result ≡ answer 0 l.here (this a.parts.now l.here)
 part-answer c =
     let l = c.loop-here in
     let a = c.args in
-    part-good a.parts.now l.here c.part_at-part.result c.part_at-part.ensures c.if-number-ne0.false
+    part-good a.parts.now l.here c.part_at-part.result c.part_at-part.ensures c.if-part-ne0.false
 
-part_sound : (c : Else-number-ne0) → let l = c.loop-here in let a = c.args in refusal (this a.parts.now l.here) ≡ 0
+part_sound : (c : Else-part-ne0) → let l = c.loop-here in let a = c.args in refusal (this a.parts.now l.here) ≡ 0
 part_sound c =
     let l = c.loop-here in
     let a = c.args in
-    sym (part-number a.parts.now l.here c.part_at-part.result c.part_at-part.ensures) ∙ c.if-number-ne0.false
+    sym (part-number a.parts.now l.here c.part_at-part.result c.part_at-part.ensures) ∙ c.if-part-ne0.false
 
 pub text_length-text-requires : goal.text_length-text-requires
 text_length-text-requires c = let l = lead_is (goal.at.text_length-text-requires c).After-shared_slice_known-1 in (c.requires.0, first_good (goal.at.text_length-text-requires c).After-shared_slice_known-1, omega (arith, l))
@@ -67,20 +67,20 @@ loop-here-init c =
     let i = c.is_index-together in
     (first_met a.parts.now (bytes (goal.at.loop-here-init c).After-shared_slice_known-1) c.requires.0 (first_good (goal.at.loop-here-init c).After-shared_slice_known-1) a.first.index i.result _ (index_is (goal.at.loop-here-init c).After-shared_slice_known-1) c.is_index-together.ensures c.note.ensures a.first.end (end_is (goal.at.loop-here-init c).After-shared_slice_known-1), omega arith, c.note.auto.seen)
 
-pub returns-then-number-ne0 : goal.returns-then-number-ne0
-returns-then-number-ne0 c =
+pub returns-then-part-ne0 : goal.returns-then-part-ne0
+returns-then-part-ne0 c =
     let l = c.loop-here in
     let a = c.args in
     let n = c.part_at-part.result.refusal in
-    refused_judges a.parts.now c.refused.result n c.refused.ensures (omega (arith, c.if-number-ne0.true))
-    (met_bad a.parts.now l.seen l.together l.count l.here l.invariant.0 c.loop-here-test.true n (part-number a.parts.now l.here c.part_at-part.result c.part_at-part.ensures) (omega (arith, c.if-number-ne0.true)))
+    refused_judges a.parts.now c.refused.result n c.refused.ensures (omega (arith, c.if-part-ne0.true))
+    (met_bad a.parts.now l.seen l.together l.count l.here l.invariant.0 c.loop-here-test.true n (part-number a.parts.now l.here c.part_at-part.result c.part_at-part.ensures) (omega (arith, c.if-part-ne0.true)))
 
 pub belongs-fits-requires : goal.belongs-fits-requires
 belongs-fits-requires c =
     let l = c.loop-here in
     let a = c.args in record {
       comparable = this_comparable a.parts.now (bytes (goal.at.belongs-fits-requires c).After-shared_slice_known-1) c.requires.0 (first_good (goal.at.belongs-fits-requires c).After-shared_slice_known-1) a.first.start c.text_length-text.result (lead_is (goal.at.belongs-fits-requires c).After-shared_slice_known-1) c.text_length-text.ensures
-          l.seen l.together l.count l.here l.invariant.0 c.loop-here-test.true (part_sound (goal.at.belongs-fits-requires c).Else-number-ne0) c.part_at-part.result.start (ap (λ (x : Part). x.start) (part-answer (goal.at.belongs-fits-requires c).Else-number-ne0));
+          l.seen l.together l.count l.here l.invariant.0 c.loop-here-test.true (part_sound (goal.at.belongs-fits-requires c).Else-part-ne0) c.part_at-part.result.start (ap (λ (x : Part). x.start) (part-answer (goal.at.belongs-fits-requires c).Else-part-ne0));
       seen_len = l.invariant.2;
     }
 
@@ -100,7 +100,7 @@ pub loop-here-smaller : goal.loop-here-smaller
 loop-here-smaller c =
     let l = c.loop-here in
     let a = c.args in
-    let q : c.part_at-part.result.end ≡ l.here + length (this a.parts.now l.here) = ap (λ (x : Part). x.end) (part-answer (goal.at.loop-here-smaller c).Else-number-ne0) in
+    let q : c.part_at-part.result.end ≡ l.here + length (this a.parts.now l.here) = ap (λ (x : Part). x.end) (part-answer (goal.at.loop-here-smaller c).Else-part-ne0) in
     omega (arith, q, some_bytes a.parts.now l.here c.loop-here-test.true, reach a.parts.now l.here c.loop-here-test.true)
 
 pub loop-here-preserved : goal.loop-here-preserved
@@ -110,9 +110,9 @@ loop-here-preserved c =
     let f = c.belongs-fits in
     let n = c.note-in-loop-here in (
       next_met a.parts.now (bytes (goal.at.loop-here-preserved c).After-shared_slice_known-1) c.requires.0 (first_good (goal.at.loop-here-preserved c).After-shared_slice_known-1) a.first.start c.text_length-text.result (lead_is (goal.at.loop-here-preserved c).After-shared_slice_known-1) c.text_length-text.ensures
-          l.seen l.together l.count l.here l.invariant.0 c.loop-here-test.true (part_sound (goal.at.loop-here-preserved c).Else-number-ne0) c.part_at-part.result.start (ap (λ (x : Part). x.start) (part-answer (goal.at.loop-here-preserved c).Else-number-ne0))
-          c.part_at-part.result.index f.result _ (ap (λ (x : Part). x.index) (part-answer (goal.at.loop-here-preserved c).Else-number-ne0)) c.belongs-fits.ensures c.note-in-loop-here.ensures
-          c.part_at-part.result.end (ap (λ (x : Part). x.end) (part-answer (goal.at.loop-here-preserved c).Else-number-ne0)),
+          l.seen l.together l.count l.here l.invariant.0 c.loop-here-test.true (part_sound (goal.at.loop-here-preserved c).Else-part-ne0) c.part_at-part.result.start (ap (λ (x : Part). x.start) (part-answer (goal.at.loop-here-preserved c).Else-part-ne0))
+          c.part_at-part.result.index f.result _ (ap (λ (x : Part). x.index) (part-answer (goal.at.loop-here-preserved c).Else-part-ne0)) c.belongs-fits.ensures c.note-in-loop-here.ensures
+          c.part_at-part.result.end (ap (λ (x : Part). x.end) (part-answer (goal.at.loop-here-preserved c).Else-part-ne0)),
       omega (arith, l.invariant.1),
       c.note-in-loop-here.auto.seen ∙ l.invariant.2,
     )

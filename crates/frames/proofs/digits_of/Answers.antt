@@ -22,8 +22,7 @@ ends c = ap (λ (x : Run). x.end) (run_is c)
 
 pub returns-then-run-start : goal.returns-then-run-start
 returns-then-run-start c =
-    c.unframed.ensures
-    ∙ digits_fewer c.args.block.now (omega (arith, c.requires.0, c.requires.2)) (λ n. omega (arith, ends (goal.at.returns-then-run-start c).After-read-run, n, c.requires.0, c.if-run-start.true))
+    digits_fewer c.args.block.now (omega (arith, c.requires.0, c.requires.2)) (λ n. omega (arith, ends (goal.at.returns-then-run-start c).After-read-run, n, c.requires.0, c.if-run-start.true))
 
 pub returns : goal.returns
 returns c =

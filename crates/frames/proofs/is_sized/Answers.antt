@@ -1,8 +1,21 @@
--- The three tests of rule 2, with L and the payload's start as they are handed over.
-use Rattle.numbers.proofs.Bools.{and_assoc, and_end}
+-- The tests of rule 2 in their order.
+use native.Mathlib.Omega.{arith}
+use Rattle.std.proofs.lemmas.Bool.Decides.{nat_tests}
 use Rattle.rules.specs.Rules.{sized}
 use Rattle.frames.proofs.is_sized.Goals as goal
 
-pub returns : goal.returns
+pub returns-then-n-end : goal.returns-then-n-end
 unfolding sized
-returns c = simp (and_assoc, and_end) cc
+returns-then-n-end c = grind (arith, nat_tests)
+
+pub returns-then-n-end-2 : goal.returns-then-n-end-2
+unfolding sized
+returns-then-n-end-2 c = grind (arith, nat_tests)
+
+pub returns-else-n-end-2 : goal.returns-else-n-end-2
+unfolding sized
+returns-else-n-end-2 c = grind (arith, nat_tests)
+
+pub returns-else-contains : goal.returns-else-contains
+unfolding sized
+returns-else-contains c = grind (arith, nat_tests)

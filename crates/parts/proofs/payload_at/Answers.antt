@@ -1,5 +1,4 @@
 -- The second byte says how many digits there are.
-use Prim.Native.Nat.{◌-◌}
 use native.Mathlib.Omega.{arith}
 use lib.Seq.{get_or-drop}
 use Rattle.parts.proofs.payload_at.Goals as goal

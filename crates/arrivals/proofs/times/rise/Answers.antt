@@ -1,6 +1,5 @@
 -- Each turn passes a window that rises, or ends at one that does not.
 use mathlib.Core.Path.{◌≡◌, refl, sym, ◌∙◌}
-use Prim.Native.Nat.{◌-◌}
 use native.Mathlib.Omega.{arith}
 use lib.ListN.{length, length-map}
 use borrow.Author.Tests.{not-true, not-false}
@@ -28,7 +27,7 @@ rise_within-requires c =
     let l = c.loop-skip in
     record {
       timed = c.requires.timed;
-      count_in_bounds = (omega (arith, c.at_most_32.ensures, c.loop-skip-test.true, c.requires.count_value.0), omega (arith, c.at_most_32.ensures));
+      count_in_bounds = (omega (arith, c.min-window.ensures, c.loop-skip-test.true, c.requires.count_value.0), omega (arith, c.min-window.ensures));
     }
 
 pub returns-then-not-rise_within : goal.returns-then-not-rise_within
@@ -36,7 +35,7 @@ returns-then-not-rise_within c =
     let l = c.loop-skip in
     let a = c.args in
     sym (l.invariant.1
-    ∙ window_falls (times_at a.order a.trig a.parts.now) a.count l.skip c.at_most_32.result (many (goal.at.returns-then-not-rise_within c).After-shared_slice_known-1) c.at_most_32.ensures
+    ∙ window_falls (times_at a.order a.trig a.parts.now) a.count l.skip c.min-window.result (many (goal.at.returns-then-not-rise_within c).After-shared_slice_known-1) c.min-window.ensures
     (sym c.rise_within.ensures ∙ not-true c.rise_within.result c.if-not-rise_within.true-raw))
 
 pub overflow_add-skip-in-loop-skip : goal.overflow_add-skip-in-loop-skip
@@ -51,7 +50,7 @@ loop-skip-preserved c =
     let a = c.args in (
       omega (arith, c.loop-skip-test.true),
       l.invariant.1
-          ∙ past_window (times_at a.order a.trig a.parts.now) a.count l.skip c.at_most_32.result (many (goal.at.loop-skip-preserved c).After-shared_slice_known-1) c.at_most_32.ensures
+          ∙ past_window (times_at a.order a.trig a.parts.now) a.count l.skip c.min-window.result (many (goal.at.loop-skip-preserved c).After-shared_slice_known-1) c.min-window.ensures
           (sym c.rise_within.ensures ∙ not-false c.rise_within.result c.if-not-rise_within.false-raw),
     )
 

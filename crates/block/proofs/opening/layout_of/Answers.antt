@@ -1,5 +1,4 @@
 -- Each start is the sum of the lengths before it.
-use Prim.Native.Nat.{◌-◌}
 use mathlib.Core.Path.{refl}
 use native.Mathlib.Omega.{arith}
 use Rattle.block.proofs.Loops.{begun, fits, more, ended}

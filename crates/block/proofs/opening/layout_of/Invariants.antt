@@ -1,10 +1,6 @@
 -- Each start is the sum of the lengths before it.
-use Prim.Native.Nat.{◌-◌}
 use Rattle.block.proofs.Loops.{Summed}
 use Rattle.block.proofs.opening.layout_of.Given as goal
 
 abbrev pub invariant-loop-i : goal.invariant-loop-i
 invariant-loop-i l = Summed l.lengths l.starts l.at l.i
-
-abbrev pub decreases-loop-i : goal.decreases-loop-i
-decreases-loop-i l = 10 - l.i

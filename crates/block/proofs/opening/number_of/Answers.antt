@@ -11,7 +11,6 @@ use Rattle.rules.specs.Rules.{all, named, formed, tiles, counted}
 use Rattle.rules.proofs.Numbers.{below-index}
 use Rattle.descriptor.specs.Fields.{head_by}
 use Rattle.block.proofs.Ladder.{Kept, passes, fails, room2, sum_fits, rung3, rung4, rung5, rung6, rung7, part_room, whole_entries, rung_tables}
-use borrow.Author.Rules.{rules}
 use Rattle.block.proofs.opening.number_of.Goals as goal
 use Rattle.block.proofs.opening.number_of.Goals.{After-shared_slice_known-1, Else-not-is_counted, Else-not-is_formed, Else-not-is_named, Else-not-is_placed, Else-not-is_tiled}
 

@@ -7,46 +7,44 @@ use Rattle.rules.specs.Rules.{all, payload_start, stated, frame, refusal}
 use Rattle.rules.proofs.Numbers.{below-index}
 use Rattle.frames.specs.declared.Header.{Header}
 use Rattle.frames.specs.Headers.{framed_as}
-use Rattle.frames.proofs.Headers.{framed_is, framed-says, framed-small}
+use Rattle.frames.proofs.Headers.{unframed_says, framed-says, framed-small}
 use Rattle.block.specs.Steps.{Framed}
 use Rattle.block.proofs.Ladder.{passes, fails, room2, rung1, rung2, refused_is, lengths_fit, finites, accepted_is}
 use Rattle.block.proofs.opening.open.Goals as goal
-use Rattle.block.proofs.opening.open.Goals.{After-shared_slice_known-1, Else-not-header, Else-not-is_sized, Else-number-ne0}
+use Rattle.block.proofs.opening.open.Goals.{After-shared_slice_known-1, In-Some, Else-not-is_sized, Else-number-ne0}
 
 -- every element of a slice is a byte
 bytes : (c : After-shared_slice_known-1) → Bytes c.args.block.now
 bytes c = below-index 256 c.args.block.now (λ i h. (c.type_inv.block i).fits)
 
 -- rule 1 is kept, and this is what its header says
-framed : (c : Else-not-header) → all (frame c.args.block.now) ≡ true
-framed c = let h = c.header_of-header in passes (framed_is c.args.block.now h.result c.header_of-header.ensures) c.if-not-header.false
-
-header : (c : Else-not-header) → c.header_of-header.result ≡ framed_as c.args.block.now
-header c = let h = c.header_of-header in framed-says c.args.block.now h.result c.header_of-header.ensures (framed c)
+framed : (c : In-Some) → (all (frame c.args.block.now) ≡ true) × (c.in-Some.field-0 ≡ framed_as c.args.block.now)
+framed c = framed-says c.args.block.now c.in-Some.field-0 c.in-Some.ensures
 
 -- and rule 2
-sized : (c : Else-not-is_sized) → let h = c.header_of-header.result in Framed c.args.block.now h.start h.length
+sized : (c : Else-not-is_sized) → let h = c.in-Some.field-0 in Framed c.args.block.now h.start h.length
 sized c =
-    record { frames = framed (goal.at.Else-not-is_sized c).Else-not-header; sizes = passes c.is_sized.ensures c.if-not-is_sized.false-raw; starts = ap (λ (h : Header). h.start) (header (goal.at.Else-not-is_sized c).Else-not-header); lasts = ap (λ (h : Header). h.length) (header (goal.at.Else-not-is_sized c).Else-not-header) }
+    let said = framed (goal.at.Else-not-is_sized c).In-Some in
+    record { frames = said.0; sizes = passes c.is_sized.ensures c.if-not-is_sized.false-raw; starts = ap (λ (h : Header). h.start) said.1; lasts = ap (λ (h : Header). h.length) said.1 }
 
-pub returns-then-not-header : goal.returns-then-not-header
-returns-then-not-header c =
+pub returns-in_default : goal.returns-in_default
+returns-in_default c =
     let s = c.args.block.now in
-    let h = c.header_of-header in
-    c.refused.ensures ∙ refused_is s 1 (omega arith) (rung1 s (fails (framed_is s h.result c.header_of-header.ensures) c.if-not-header.true))
+    c.refused.ensures ∙ refused_is s 1 (omega arith) (rung1 s (unframed_says s c.in_default.ensures))
 
 pub is_sized-requires : goal.is_sized-requires
 is_sized-requires c =
-    let s = c.args.block.now in
-    let small = framed-small s (framed (goal.at.is_sized-requires c).Else-not-header) in
-    let start : c.header_of-header.result.start ≡ payload_start s = ap (λ (h : Header). h.start) (header (goal.at.is_sized-requires c).Else-not-header) in
-    let long : c.header_of-header.result.length ≡ stated s = ap (λ (h : Header). h.length) (header (goal.at.is_sized-requires c).Else-not-header) in
+    let said = framed (goal.at.is_sized-requires c).In-Some in
+    let small = framed-small c.args.block.now said.0 in
+    let start : c.in-Some.field-0.start ≡ payload_start c.args.block.now = ap (λ (h : Header). h.start) said.1 in
+    let long : c.in-Some.field-0.length ≡ stated c.args.block.now = ap (λ (h : Header). h.length) said.1 in
     (start, omega (arith, small.0), long, omega (arith, small.1))
 
 pub returns-then-not-is_sized : goal.returns-then-not-is_sized
 returns-then-not-is_sized c =
     let s = c.args.block.now in
-    c.refused-then-not-is_sized.ensures ∙ refused_is s 2 (omega arith) (rung2 s (framed (goal.at.returns-then-not-is_sized c).Else-not-header) (fails c.is_sized.ensures c.if-not-is_sized.true-raw))
+    let said = framed (goal.at.returns-then-not-is_sized c).In-Some in
+    c.refused-then-not-is_sized.ensures ∙ refused_is s 2 (omega arith) (rung2 s said.0 (fails c.is_sized.ensures c.if-not-is_sized.true-raw))
 
 pub fields_of-fields-requires : goal.fields_of-fields-requires
 fields_of-fields-requires c = room2 _ _ _ (sized (goal.at.fields_of-fields-requires c).Else-not-is_sized)

@@ -17,11 +17,9 @@ float_from_bits-last c = tt
 pub loop-j-init : goal.loop-j-init
 loop-j-init c =
     let a = c.args in
-    let all : a.count ≡ a.count - 0 = omega arith in (
-      omega arith,
-      after_none (times_by a.order a.from a.step a.count a.s.now)
-          ∙ ap (λ (n : ℕ). after (of_bits binary64 18442240474082181120) (map (time_by a.order a.from a.step a.s.now) (up_from 0 n))) all,
-    )
+    let all : a.count ≡ a.count - 0 = omega arith in
+    after_none (times_by a.order a.from a.step a.count a.s.now)
+    ∙ ap (λ (n : ℕ). after (of_bits binary64 18442240474082181120) (map (time_by a.order a.from a.step a.s.now) (up_from 0 n))) all
 
 pub overflow_mul-j : goal.overflow_mul-j
 overflow_mul-j c = omega (arith, (c.requires c.loop-j.j c.loop-j-test.true).0)
@@ -40,14 +38,12 @@ pub loop-j-preserved : goal.loop-j-preserved
 loop-j-preserved c =
     let a = c.args in
     let l = c.loop-j in
-    let t = c.double_at-time.ensures in (
-      omega (arith, c.loop-j-test.true),
-      time_more (time_by a.order a.from a.step a.s.now) a.count _ l.ok _ l.last l.j c.loop-j-test.true (ap (λ (x : Float). not (lt x l.last)) t) l.invariant.1
-          ∙ ap (λ (x : Float). (l.ok && not (lt c.double_at-time.result l.last)) && after x (map (time_by a.order a.from a.step a.s.now) (up_from (l.j + 1) (a.count - (l.j + 1))))) (sym t),
-    )
+    let t = c.double_at-time.ensures in
+    time_more (time_by a.order a.from a.step a.s.now) a.count _ l.ok _ l.last l.j c.loop-j-test.true (ap (λ (x : Float). not (lt x l.last)) t) l.invariant
+    ∙ ap (λ (x : Float). (l.ok && not (lt c.double_at-time.result l.last)) && after x (map (time_by a.order a.from a.step a.s.now) (up_from (l.j + 1) (a.count - (l.j + 1))))) (sym t)
 
 pub returns : goal.returns
 returns c =
     let a = c.args in
     let l = c.loop-j in
-    time-end (time_by a.order a.from a.step a.s.now) a.count _ l.ok l.last l.j c.loop-j-test.false l.invariant.1
+    time-end (time_by a.order a.from a.step a.s.now) a.count _ l.ok l.last l.j c.loop-j-test.false l.invariant

@@ -2,7 +2,7 @@
 use mathlib.Core.Path.{◌≡◌}
 use mathlib.Core.Bool.{◌&&◌}
 use mathlib.Core.List.{map}
-use Prim.Native.Nat.{◌-◌, ◌≤◌}
+use Prim.Native.Nat.{◌-◌}
 use Rattle.rules.specs.Numbers.{up_from}
 use Rattle.rules.specs.Rules.{ascending}
 use Rattle.block.specs.Opened.{time_by, times_by}
@@ -10,7 +10,4 @@ use Rattle.block.proofs.Times.{after}
 use Rattle.block.proofs.tables.ascend.Given as goal
 
 abbrev pub invariant-loop-j : goal.invariant-loop-j
-invariant-loop-j l = (l.j ≤ l.count) × (ascending (times_by l.order l.from l.step l.count l.s) ≡ l.ok && after l.last (map (time_by l.order l.from l.step l.s) (up_from l.j (l.count - l.j))))
-
-abbrev pub decreases-loop-j : goal.decreases-loop-j
-decreases-loop-j l = l.count - l.j
+invariant-loop-j l = ascending (times_by l.order l.from l.step l.count l.s) ≡ l.ok && after l.last (map (time_by l.order l.from l.step l.s) (up_from l.j (l.count - l.j)))

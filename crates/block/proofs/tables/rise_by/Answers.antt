@@ -12,7 +12,7 @@ pub loop-j-init : goal.loop-j-init
 loop-j-init c =
     let a = c.args in
     let all : a.count - 0 ≡ a.count = omega arith in
-    (omega arith, λ r. rising_all a.order a.from a.block.now a.count (subst (λ (n : ℕ). Rising a.order a.from a.block.now n 0 0) all r))
+    λ r. rising_all a.order a.from a.block.now a.count (subst (λ (n : ℕ). Rising a.order a.from a.block.now n 0 0) all r)
 
 pub returns-then-time-last : goal.returns-then-time-last
 returns-then-time-last c e = absurd (false≢true e)
@@ -24,15 +24,12 @@ pub loop-j-preserved : goal.loop-j-preserved
 loop-j-preserved c =
     let l = c.loop-j in
     let a = c.args in
-    let below = c.loop-j-test.true in (
-      omega (arith, below),
-      λ r. l.invariant.1
-          (rising_more a.order a.from a.block.now a.count l.j l.last c.u64_at-time.result below c.u64_at-time.ensures (omega (arith, c.if-time-last.false))
-          (passes c.finite_double_at.ensures c.if-not-finite_double_at.false-raw) r),
-    )
+    λ r. l.invariant
+    (rising_more a.order a.from a.block.now a.count l.j l.last c.u64_at-time.result c.loop-j-test.true c.u64_at-time.ensures (omega (arith, c.if-time-last.false))
+    (passes c.finite_double_at.ensures c.if-not-finite_double_at.false-raw) r)
 
 pub returns : goal.returns
 returns c e =
     let a = c.args in
     let l = c.loop-j in
-    l.invariant.1 (rising_end a.order a.from a.block.now a.count l.j l.last c.loop-j-test.false (omega (arith, ltb-true l.last _ e)))
+    l.invariant (rising_end a.order a.from a.block.now a.count l.j l.last c.loop-j-test.false (omega (arith, ltb-true l.last _ e)))
