@@ -1,19 +1,19 @@
 -- Digits in a text, one byte after another: how many there are (`digit_more`, `digit_stop`), their number (`value_next`, `value-small`), and those of a start of the text
--- (`start-alike`, `start-full`). A number's own digits have its value (`value_own`), and digits with no zero before them are the number's own (`own_digits`).
+-- (`start-alike`, `start-full`), and a text read byte by byte (`read_more`, `read_stops`, `read_ends`). A number's own digits have its value (`value_own`), and digits with no zero before them are the number's own (`own_digits`).
 use mathlib.Core.Path.{◌≡◌, refl, sym, ap, ap₂, ◌∙◌, subst}
 use Prim.Native.Nat.{ℕ, zero, suc, ◌+◌, ◌-◌, ◌*◌, ◌^◌, ◌≤◌, ◌<◌}
 use native.Mathlib.Nat.{pow-le-pow_right, pow-zero, pow-suc, zero-add, one-mul, mul-add, mul_assoc, mul_comm, add_assoc, mul-le-mul_left}
 use native.Mathlib.Omega.{arith}
 use mathlib.Core.Bool.{Bool, true, false, cond, ◌&&◌, false≢true}
 use mathlib.Core.List.{List, [], ◌∷◌, ◌++◌, map, reverse, reverse-append, reverse-reverse}
-use lib.ListN.{length, get_or, take, length-reverse}
-use lib.Seq.{take-suc}
+use lib.ListN.{length, get_or, take, drop, length-reverse, length-take, length-drop}
+use lib.Seq.{take-suc, take_all, get_or-take, get_or-drop, length-take-le}
 use Rattle.rules.specs.Numbers.{Below, low, digits}
 use Rattle.rules.specs.Rules.{every?, digit?}
 use Rattle.rules.proofs.Tests.{and_true}
-use Rattle.rules.proofs.Numbers.{below-reverse, low_below, low-digits, digits_low, length_digits, below-digits}
+use Rattle.rules.proofs.Numbers.{below-reverse, below-take, low_below, low-digits, digits_low, length_digits, below-digits}
 use Rattle.rules.proofs.Frames.{digit-says}
-use Rattle.digits.specs.Digits.{places, digits_of, value_of, Shortest, digits_at}
+use Rattle.digits.specs.Digits.{places, digits_of, value_of, Shortest, digits_at, run_of}
 use Rattle.digits.proofs.Spelled.{places-small, places-some, places-most, places-least, places_enough}
 
 -- ---- digits one by one
@@ -91,6 +91,58 @@ pub value-small : (w : ℕ) (ds : List ℕ) → Below 10 ds → length ds ≤ w 
 value-small w ds b h =
     let p : 10 ^ length ds ≤ 10 ^ w = pow-le-pow_right (omega arith) {i = length ds} {j = w} h in
     omega (arith, value-below ds b, p)
+
+-- ---- a text read on to the byte at `at`, the digits before it the number v
+
+-- the bytes of s that are looked at
+abbrev pub text : List ℕ → ℕ → ℕ → List ℕ
+text s from to = take (to - from) (drop from s)
+
+abbrev pub ReadTo : List ℕ → ℕ → ℕ → ℕ → ℕ → Type 0
+ReadTo s from to at v = (at - from ≤ length (digits_at (text s from to))) × (v ≡ value_of (take (at - from) (digits_at (text s from to))))
+
+module _ (s : List ℕ) (from to at v : ℕ) (h : from ≤ at) (b : to ≤ length s) (r : ReadTo s from to at v) where
+  abbrev t : List ℕ
+  t = text s from to
+
+  long : length t ≡ to - from
+  long = length-take-le (to - from) (drop from s) (omega (arith, length-drop from s))
+
+  byte_is : at < to → get_or t (at - from) 0 ≡ get_or s at 0
+  byte_is l =
+      let e : from + (at - from) ≡ at = omega arith in
+      get_or-take (to - from) (drop from s) (at - from) 0 (omega arith) ∙ get_or-drop from s (at - from) 0 ∙ ap (λ (k : ℕ). get_or s k 0) e
+
+  -- these are all its digits
+  whole : at - from ≡ length (digits_at t) → record { end = at; value = v } ≡ run_of from t
+  whole e =
+      let ends : at ≡ from + length (digits_at t) = omega (arith, e) in
+      λ i. record { end = ends i; value = (r.1 ∙ ap value_of (take_all (at - from) (digits_at t) (omega (arith, e)))) i }
+
+  pub read_stops : at < to → digit? (get_or s at 0) ≡ false → record { end = at; value = v } ≡ run_of from t
+  read_stops l e = whole (digit_stop t (at - from) r.0 (omega (arith, long)) (ap digit? (byte_is l) ∙ e))
+
+  pub read_ends : at ≡ to → record { end = at; value = v } ≡ run_of from t
+  read_ends e = whole (omega (arith, r.0, digits_few t, long))
+
+  module _ (l : at < to) (e : digit? (get_or s at 0) ≡ true) where
+    more : at - from < length (digits_at t)
+    more = digit_more t (at - from) r.0 (omega (arith, long)) (ap digit? (byte_is l) ∙ e)
+
+    next : v * 10 + (get_or s at 0 - 48) ≡ value_of (take (at + 1 - from) (digits_at t))
+    next =
+        let one : suc (at - from) ≡ at + 1 - from = omega arith in
+        ap₂ {C = ℕ} (λ n d. n * 10 + (d - 48)) r.1 (sym (byte_is l)) ∙ sym (value_next t (at - from) more) ∙ ap (λ (n : ℕ). value_of (take n (digits_at t))) one
+
+    pub read_more : ReadTo s from to (at + 1) (v * 10 + (get_or s at 0 - 48))
+    read_more = (omega (arith, more), next)
+
+    pub read_bound : to ≤ from + 19 → v * 10 + (get_or s at 0 - 48) < 10000000000000000000
+    read_bound few =
+        let ds : List ℕ = digits_at t in
+        let n : ℕ = at + 1 - from in
+        let small : value_of (take n ds) < 10 ^ 19 = value-small 19 (take n ds) (below-take 10 n ds (digits-below t)) (omega (arith, length-take n ds)) in
+        omega (arith, next, small)
 
 -- ---- a text of digits alone
 

@@ -2,7 +2,7 @@
 use mathlib.Core.Path.{◌≡◌, refl, sym, ap, ap₂, ◌∙◌}
 use mathlib.Core.Bool.{Bool, true, false, cond}
 use mathlib.Core.List.{List, [], ◌∷◌, ◌++◌, map, reverse, reverse-cons, map-append, append_assoc}
-use Prim.Native.Nat.{ℕ, zero, suc, ◌+◌, ◌-◌, ◌*◌, ◌/◌, ◌%◌, ◌^◌, ◌≤◌, ◌<◌}
+use Prim.Native.Nat.{ℕ, zero, suc, ◌+◌, ◌-◌, ◌*◌, ◌/◌, ◌%◌, ◌^◌, ◌≤◌, ◌<◌, max}
 use native.Mathlib.Nat.{div-lt_iff_lt-mul, pow-le-pow_right, pow-suc, pow-zero}
 use native.Mathlib.Omega.{arith}
 use lib.ListN.{length, take, drop, set, length-append, length-map, length-reverse}
@@ -75,6 +75,14 @@ places-least (suc w) n h =
     let q : 10 ^ 0 ≤ 10 ^ w = pow-le-pow_right (omega arith) {i = 0} {j = w} (omega arith) in
     let l : suc w ≤ places (n / 10) = places-least w (n / 10) (omega arith) in
     omega (arith, places-step n (omega arith))
+
+-- one more than the power of ten that the number reaches; 0 counts as 1
+pub places_power : (n m k : ℕ) → m ≡ max n 1 → 10 ^ k ≤ m → m < 10 * 10 ^ k → k + 1 ≡ places n
+places_power zero m zero e l h = omega (arith, places-small zero (omega arith))
+places_power zero m (suc k) e l h = let p : 10 ^ 1 ≤ 10 ^ suc k = pow-le-pow_right (omega arith) {i = 1} {j = suc k} (omega arith) in absurd (omega arith)
+places_power (suc n) m k e l h =
+    let p : 10 ^ suc k ≡ 10 ^ k * 10 = pow-suc 10 k in
+    omega (arith, places-least k (suc n) (omega arith), places-most k (suc n) (omega arith))
 
 enough_by : (f n : ℕ) → n ≤ f → n < 10 ^ places n
 enough_by zero n h = let e = places-small n (omega arith) in let p : 10 ^ places n ≡ 10 = ap (λ (w : ℕ). 10 ^ w) e in omega (arith, p)

@@ -3,7 +3,6 @@
 
 ghost use Rattle.std.specs.Prelude.{◌≡◌, ◌+◌, ◌-◌, ◌≤◌, ◌<◌, length, take, drop};
 ghost use Rattle.rules.specs.Numbers.{splice};
-ghost use Rattle.rules.specs.Rules.{digit?};
 ghost use Rattle.digits.specs.Digits.{sign, spelled, run_of};
 ghost use Rattle.digits.specs.Digits.{places as Digits·places};
 
@@ -20,36 +19,21 @@ pub fn read(s: &[u8], from: usize, to: usize) -> Run
     ensures { result ≡ run_of from (take (to - from) (drop from s.now)) }
 {
     let mut value: u64 = 0;
-    let mut at = from;
-    while at < to {
-        let b = s[at] as u64;
-        if !is_digit(b) {
+    for at in from..to {
+        let b = s[at];
+        if !b.is_ascii_digit() {
             return Run { end: at, value };
         }
-        value = value * 10 + (b - 48);
-        at += 1;
+        value = value * 10 + u64::from(b - b'0');
     }
-    Run { end: at, value }
-}
-
-// Whether a byte is a decimal digit.
-fn is_digit(b: u64) -> bool
-    ensures { result ≡ digit? b }
-{
-    (48 <= b) & (b <= 57)
+    Run { end: to, value }
 }
 
 // How many decimal digits n has.
 pub fn places(n: u64) -> usize
     ensures { result ≡ Digits·places n }
 {
-    let mut count = 1;
-    let mut rest = n;
-    while rest >= 10 {
-        rest = rest / 10;
-        count += 1;
-    }
-    count
+    n.max(1).ilog10() as usize + 1
 }
 
 // The `width` lowest digits of n, the highest first, from `at`.
@@ -58,12 +42,10 @@ pub fn put_digits(n: u64, base: u64, width: usize, out: &mut [u8], at: usize)
     requires width_in_bounds { at + width ≤ length out.old }
     ensures { out.new ≡ splice out.old at (spelled base width n) }
 {
-    let mut left = width;
     let mut rest = n;
-    while left > 0 {
-        left -= 1;
-        out[at + left] = sign_of(rest % base);
-        rest = rest / base;
+    for k in (0..width).rev() {
+        out[at + k] = sign_of(rest % base);
+        rest /= base;
     }
 }
 
@@ -72,5 +54,9 @@ fn sign_of(d: u64) -> u8
     requires { d < 16 }
     ensures { result ≡ sign d }
 {
-    if d < 10 { 48 + d as u8 } else { 55 + d as u8 }
+    if d < 10 {
+        b'0' + d as u8
+    } else {
+        b'A' + (d - 10) as u8
+    }
 }

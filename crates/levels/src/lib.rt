@@ -13,6 +13,7 @@ ghost use Rattle.levels.specs.Levels.{between, raised, ranked, Rises, Edge};
 use scale::Calibration;
 
 // The lowest and the highest sample whose value reaches a level. Where none does, the lowest is above the highest.
+// Two numbers also where there is none: `bounds_of` promises a test between them.
 #[derive(Clone, Copy)]
 pub struct Bounds {
     pub low: i16,
@@ -29,24 +30,24 @@ pub fn bounds_of(c: Calibration, level: f64) -> Bounds
     let k = edge(c, level, falling);
     if k == 65536 {
         return Bounds {
-            low: 32767,
-            high: -32768,
+            low: i16::MAX,
+            high: i16::MIN,
         };
     }
     let z = ranked(falling, k);
     if falling {
         return Bounds {
-            low: -32768,
+            low: i16::MIN,
             high: z,
         };
     }
     Bounds {
         low: z,
-        high: 32767,
+        high: i16::MAX,
     }
 }
 
-// The rank from which on samples reach the level, or 65,536 where none does. It is found by halves, so at most 17 values are tried.
+// The rank from which on samples reach the level, or their end, 65,536, where none does. It is found by halves, so at most 17 values are tried.
 fn edge(c: Calibration, level: f64, falling: bool) -> u32
     requires finite_value { FiniteValue c }
     requires rises { Rises (λ j. le level (value_of c.gain c.offset (ranked falling j))) 65536 }

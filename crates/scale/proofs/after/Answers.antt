@@ -19,7 +19,7 @@ unfolding time_by
 returns c =
     let a = c.args in
     let rule = Ris a.interval a.offset a.phase in
-    let e = ap (λ (n : ℕ). add binary64 a.offset (mul binary64 a.interval (of_int binary64 (pos n)))) c.less.ensures in record {
+    let e = ap (λ (n : ℕ). add binary64 a.offset (mul binary64 a.interval (of_int binary64 (pos n)))) c.saturating_sub.ensures in record {
       value = e;
       near = subst (λ (r : Float). Near 1074 (exact_time rule a.i) r) (sym e)
           (time_near rule a.i (passes _ c.well_formed.1.0.1, c.requires.finite_pair.0, passes _ c.well_formed.0.1, c.requires.finite_pair.1) (omega arith));

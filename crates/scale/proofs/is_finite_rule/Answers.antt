@@ -1,14 +1,18 @@
--- The test of each case.
-use mathlib.Core.Path.{sym, ap, ◌∙◌}
+-- The library's test of both, whichever the rule.
+use mathlib.Core.Path.{sym, ap, ap₂, ◌∙◌}
+use mathlib.Core.Bool.{Bool, ◌&&◌}
+use mathlib.Core.Logic.{inl, inr}
 use Rattle.scale.specs.declared.TimeRule.{TimeRule}
 use Rattle.scale.specs.Scale.{rule_as, finite_rule}
+use Rattle.scale.proofs.Finite.{library_finite}
 use Rattle.scale.proofs.is_finite_rule.Goals as goal
 
-pub returns-in-Segment : goal.returns-in-Segment
-returns-in-Segment c = c.is_finite_pair.ensures ∙ ap (λ (x : TimeRule). finite_rule (rule_as x)) (sym c.in-Segment.is)
-
-pub returns-in-Ris : goal.returns-in-Ris
-returns-in-Ris c = c.is_finite_pair-in-Ris.ensures ∙ ap (λ (x : TimeRule). finite_rule (rule_as x)) (sym c.in-Ris.is)
-
-pub returns-in-Horizontal : goal.returns-in-Horizontal
-returns-in-Horizontal c = c.is_finite_pair-in-Horizontal.ensures ∙ ap (λ (x : TimeRule). finite_rule (rule_as x)) (sym c.in-Horizontal.is)
+pub returns : goal.returns
+returns c =
+    let a = c.in-Segment in
+    ap₂ {C = Bool} (λ x y. x && y) (c.is_finite.ensures.value ∙ library_finite a.interval) (c.is_finite-in-Segment.ensures.value ∙ library_finite a.offset)
+    ∙ elim a.is [
+      | inl e ↦ ap (λ (x : TimeRule). finite_rule (rule_as x)) (sym e)
+      | inr (inl e) ↦ ap (λ (x : TimeRule). finite_rule (rule_as x)) (sym e.1)
+      | inr (inr e) ↦ ap (λ (x : TimeRule). finite_rule (rule_as x)) (sym e)
+    ]

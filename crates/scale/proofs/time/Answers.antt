@@ -1,5 +1,6 @@
--- `scale::time` meets its contract.
+-- `scale::time` meets its contract: each rule's arm is one of the two sums.
 use mathlib.Core.Path.{◌≡◌, sym, subst}
+use mathlib.Core.Logic.{inl, inr}
 use Prim.Native.Nat.{ℕ}
 use native.Mathlib.Omega.{arith}
 use lib.Ieee.{Float}
@@ -14,7 +15,10 @@ Timed i r rule = (r ≡ time_by (rule_as rule) i) × Near 1074 (exact_time (rule
 
 pub along-requires : goal.along-requires
 along-requires c = record {
-  finite_pair = subst FiniteRule c.in-Segment.is c.requires.finite_rule;
+  finite_pair = elim c.in-Segment.is [
+    | inl e ↦ subst FiniteRule e c.requires.finite_rule
+    | inr e ↦ subst FiniteRule e c.requires.finite_rule
+  ];
   i_bound = omega arith;
 }
 
@@ -24,15 +28,13 @@ after-requires c = record {
   i_bound = omega arith;
 }
 
-pub along-requires-in-Horizontal : goal.along-requires-in-Horizontal
-along-requires-in-Horizontal c = record {
-  finite_pair = subst FiniteRule c.in-Horizontal.is c.requires.finite_rule;
-  i_bound = omega arith;
-}
-
 pub returns-in-Segment : goal.returns-in-Segment
+unfolding time_by
 returns-in-Segment c =
-    let told = subst (Timed c.args.i c.along.result) (sym c.in-Segment.is) (c.along.ensures.value, c.along.ensures.near) in record {
+    let told : Timed c.args.i c.along.result c.args.rule = elim c.in-Segment.is [
+      | inl e ↦ subst (Timed c.args.i c.along.result) (sym e) (c.along.ensures.value, c.along.ensures.near)
+      | inr e ↦ subst (Timed c.args.i c.along.result) (sym e) (c.along.ensures.value, c.along.ensures.near)
+    ] in record {
       value = told.0;
       near = told.1;
     }
@@ -40,14 +42,6 @@ returns-in-Segment c =
 pub returns-in-Ris : goal.returns-in-Ris
 returns-in-Ris c =
     let told = subst (Timed c.args.i c.after.result) (sym c.in-Ris.is) (c.after.ensures.value, c.after.ensures.near) in record {
-      value = told.0;
-      near = told.1;
-    }
-
-pub returns-in-Horizontal : goal.returns-in-Horizontal
-unfolding time_by
-returns-in-Horizontal c =
-    let told = subst (Timed c.args.i c.along-in-Horizontal.result) (sym c.in-Horizontal.is) (c.along-in-Horizontal.ensures.value, c.along-in-Horizontal.ensures.near) in record {
       value = told.0;
       near = told.1;
     }

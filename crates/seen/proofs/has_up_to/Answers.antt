@@ -1,25 +1,18 @@
--- The loop counts down: what is left is asked for still.
-use mathlib.Core.Path.{refl}
-use Prim.Native.Nat.{◌-◌}
+-- What `all` tells of the numbers in the range.
+use mathlib.Core.Bool.{true, false}
+use mathlib.Core.Path.{◌≡◌, refl}
+use Prim.Native.Nat.{ℕ, ◌+◌}
 use native.Mathlib.Omega.{arith}
 use lib.Dec.{eqb}
-use Rattle.rules.specs.Numbers.{up_from}
-use Rattle.rules.specs.Rules.{every?}
+use borrow.Author.Rules.{rules}
+use Rattle.std.proofs.lemmas.Iterator.{cases_from_all, YieldsList-from_range}
 use Rattle.seen.specs.Seen.{seen_of}
-use Rattle.seen.proofs.Bits.{next_seen, last_seen}
+use Rattle.seen.proofs.Bits.{all_told}
 use Rattle.seen.proofs.has_up_to.Goals as goal
-
-pub loop-left-init : goal.loop-left-init
-loop-left-init c = (omega arith, refl)
-
-pub loop-left-preserved : goal.loop-left-preserved
-loop-left-preserved c =
-    let a = c.args in
-    let l = c.loop-left in
-    (omega arith, next_seen a.seen.now l.k l.left (every? (λ j. eqb (seen_of a.seen.now j) 1) (up_from 1 a.n)) l.ok c.has-ok.result c.loop-left-test.true l.invariant.1 c.has-ok.ensures)
 
 pub returns : goal.returns
 returns c =
-    let a = c.args in
-    let l = c.loop-left in
-    last_seen a.seen.now l.k l.left (every? (λ j. eqb (seen_of a.seen.now j) 1) (up_from 1 a.n)) l.ok (omega arith) l.invariant.1
+    let ws = c.args.seen.now in
+    all_told (λ (k : ℕ). eqb (seen_of ws k) 1) c.all.result c.args.n
+    (cases_from_all _ _ _ (λ x. eqb (seen_of ws x) 1 ≡ true) (λ x. eqb (seen_of ws x) 1 ≡ false) c.all.ensures.ran (YieldsList-from_range 1 (c.args.n + 1) c.args.n refl (omega arith))
+    (λ x q k. search rules) (λ x q k. search rules))

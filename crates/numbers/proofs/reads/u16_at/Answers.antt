@@ -1,17 +1,10 @@
--- The 2 bytes joined are the number in either order.
-use native.Mathlib.Omega.{arith}
-use Rattle.rules.specs.Numbers.{low}
-use Rattle.numbers.proofs.Reading.{read-high, read_low}
+-- The library's reading of the 2 bytes, in either order.
+use mir.Syntax.{w16}
+use Rattle.numbers.proofs.Reading.{high-first, low-first}
 use Rattle.numbers.proofs.reads.u16_at.Goals as goal
 
 pub returns-then-order-eq0 : goal.returns-then-order-eq0
-unfolding low
-returns-then-order-eq0 c =
-    let a = c.args in
-    omega (arith, c.join2.ensures, read-high a.s.now a.at 2 a.order (omega arith) c.if-order-eq0.true)
+returns-then-order-eq0 c = high-first w16 c.args.s.now c.args.at c.args.order c.from_be_bytes.result c.bytes_at-b.result c.requires c.bytes_at-b.ensures c.if-order-eq0.true c.from_be_bytes.ensures
 
 pub returns-else-order-eq0 : goal.returns-else-order-eq0
-unfolding low
-returns-else-order-eq0 c =
-    let a = c.args in
-    omega (arith, c.join2-else-order-eq0.ensures, read_low a.s.now a.at 2 a.order (omega arith) c.if-order-eq0.false)
+returns-else-order-eq0 c = low-first w16 c.args.s.now c.args.at c.args.order c.from_le_bytes.result c.bytes_at-b.result c.requires c.bytes_at-b.ensures c.if-order-eq0.false c.from_le_bytes.ensures

@@ -1,10 +1,7 @@
--- Both halves of the numbers of 8 bits.
+-- The library reads it so.
 use mir.Syntax.{w8}
-use Rattle.numbers.proofs.Twos.{read, flipped}
+use Rattle.numbers.proofs.Twos.{read}
 use Rattle.numbers.proofs.signs.signed8.Goals as goal
 
-pub returns-then-n-lt128 : goal.returns-then-n-lt128
-returns-then-n-lt128 c = read w8 c.args.n
-
 pub returns : goal.returns
-returns c = flipped w8 c.args.n c.ranges.n.fits
+returns c = read w8 c.args.n c.cast_signed.result c.ranges.n c.cast_signed.ensures
