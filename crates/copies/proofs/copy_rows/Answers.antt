@@ -1,13 +1,12 @@
 -- The loop gathers one row more at each turn.
-use mathlib.Core.Path.{◌≡◌, refl, ◌∙◌}
-use Prim.Native.Nat.{◌+◌, ◌*◌, ◌-◌, ◌≤◌}
+use mathlib.Core.Path.{◌≡◌, ◌∙◌}
+use Prim.Native.Nat.{◌+◌, ◌*◌, ◌≤◌}
 use native.Mathlib.Omega.{arith}
 use lib.ListN.{length}
 use Rattle.copies.specs.Copies.{items}
 use Rattle.rules.proofs.Splices.{splice_none}
 use Rattle.copies.proofs.Laws.{gather-step}
 use Rattle.copies.proofs.Items.{rows-room, length-items}
-use borrow.Author.Rules.{rules}
 use Rattle.copies.proofs.copy_rows.Goals as goal
 use Rattle.copies.proofs.copy_rows.Goals.{In-loop-n}
 
@@ -23,7 +22,7 @@ pub overflow_mul-size : goal.overflow_mul-size
 overflow_mul-size c = omega (arith, rows-room 0 c.args.rows (c.args.count * c.args.width) c.requires.rows_nonzero.0)
 
 pub loop-n-init : goal.loop-n-init
-loop-n-init c = (search rules, refl, splice_none c.args.out.now c.args.at)
+loop-n-init c = splice_none c.args.out.now c.args.at
 
 pub overflow_mul-n : goal.overflow_mul-n
 overflow_mul-n c = omega (arith, first (goal.at.overflow_mul-n c).In-loop-n)
@@ -47,20 +46,14 @@ copy_row-requires c =
 
 pub loop-n-preserved : goal.loop-n-preserved
 loop-n-preserved c =
-    let a = c.args in (
-      omega arith,
-      c.copy_row.auto.out ∙ c.loop-n.invariant.1,
-      c.copy_row.ensures
-          ∙ rw c.loop-n.invariant.2
-          (gather-step (λ i. items a.same a.src.now (a.from + i * a.row) a.step a.width a.count) (a.count * a.width) c.loop-n.n
-          (λ i b. length-items a.same a.src.now (a.from + i * a.row) a.step a.width a.count (λ k d. c.requires.by_index i k (omega arith) d))
-          a.out.now a.at (omega (arith, room (goal.at.loop-n-preserved c).In-loop-n))),
-    )
-
-pub shape_of-out : goal.shape_of-out
-shape_of-out c = c.loop-n.invariant.1
+    let a = c.args in
+    c.copy_row.ensures
+    ∙ rw c.loop-n.invariant
+    (gather-step (λ i. items a.same a.src.now (a.from + i * a.row) a.step a.width a.count) (a.count * a.width) c.loop-n.n
+    (λ i b. length-items a.same a.src.now (a.from + i * a.row) a.step a.width a.count (λ k d. c.requires.by_index i k (omega arith) d))
+    a.out.now a.at (omega (arith, room (goal.at.loop-n-preserved c).In-loop-n)))
 
 pub returns : goal.returns
 returns c =
     let e : c.loop-n.n ≡ c.args.rows = omega arith in
-    rw e at c.loop-n.invariant.2
+    rw e at c.loop-n.invariant

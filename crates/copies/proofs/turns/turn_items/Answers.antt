@@ -45,8 +45,8 @@ returns-then-width-eq2 c =
     c.turn_pairs.ensures
     ∙ ap (λ (w : ℕ). splice a.out.now a.at (items false a.src.now a.from w w a.count)) (sym c.if-width-eq2.true)
 
-pub turn_longs-requires : goal.turn_longs-requires
-turn_longs-requires c =
+pub turn_each-requires : goal.turn_each-requires
+turn_each-requires c =
     let a = c.args in
     let e : a.count * a.width ≡ a.count * 4 = ap (λ (w : ℕ). a.count * w) c.if-width-eq4.true in
     record {
@@ -57,13 +57,13 @@ turn_longs-requires c =
 pub returns-then-width-eq4 : goal.returns-then-width-eq4
 returns-then-width-eq4 c =
     let a = c.args in
-    c.turn_longs.ensures
+    c.turn_each.ensures
     ∙ ap (λ (w : ℕ). splice a.out.now a.at (items false a.src.now a.from w w a.count)) (sym c.if-width-eq4.true)
 
-pub turn_doubles-requires : goal.turn_doubles-requires
-turn_doubles-requires c =
+pub turn_each-requires-2 : goal.turn_each-requires-2
+turn_each-requires-2 c =
     let a = c.args in
-    let e : a.count * a.width ≡ a.count * 8 = ap (λ (w : ℕ). a.count * w) (eight (goal.at.turn_doubles-requires c).Else-width-eq4) in
+    let e : a.count * a.width ≡ a.count * 8 = ap (λ (w : ℕ). a.count * w) (eight (goal.at.turn_each-requires-2 c).Else-width-eq4) in
     record {
       count_in_bounds = omega arith;
       count_in_bounds_2 = omega arith;
@@ -72,5 +72,5 @@ turn_doubles-requires c =
 pub returns : goal.returns
 returns c =
     let a = c.args in
-    c.turn_doubles.ensures
+    c.turn_each-2.ensures
     ∙ ap (λ (w : ℕ). splice a.out.now a.at (items false a.src.now a.from w w a.count)) (sym (eight (goal.at.returns c).Else-width-eq4))
