@@ -2,12 +2,8 @@
 use mathlib.Core.Path.{◌≡◌, ◌∙◌}
 use Prim.Native.Nat.{◌+◌, ◌*◌}
 use native.Mathlib.Omega.{arith}
-use Rattle.rules.proofs.Splices.{splice_none}
 use Rattle.copies.proofs.Items.{seconds_more}
 use Rattle.copies.proofs.seconds.pick_blocks.Goals as goal
-
-pub loop-i-init : goal.loop-i-init
-loop-i-init c = splice_none c.args.out.now c.args.at
 
 pub loop-i-preserved : goal.loop-i-preserved
 loop-i-preserved c =
@@ -16,8 +12,3 @@ loop-i-preserved c =
     let from_here : i * 128 * 2 ≡ i * 256 = omega arith in
     let more : i * 128 + 128 ≡ (i + 1) * 128 = omega arith in
     c.pick_run.ensures ∙ rw c.loop-i.invariant (rw (from_here, more) at (seconds_more a.src.now a.from (i * 128) 128 a.out.now a.at (omega arith) (omega arith)))
-
-pub returns : goal.returns
-returns c =
-    let e : c.loop-i.i ≡ c.args.blocks = omega arith in
-    rw e at c.loop-i.invariant

@@ -7,14 +7,10 @@ use native.Mathlib.Omega.{arith}
 use lib.ListN.{get_or}
 use lib.Seq.{sets-eq}
 use Rattle.rules.specs.Numbers.{splice}
-use Rattle.rules.proofs.Splices.{splice_none}
 use Rattle.copies.proofs.Laws.{gather-step}
 use Rattle.copies.proofs.Items.{items-bytes, second_of}
 use Rattle.copies.proofs.seconds.pick_run.Goals as goal
 use Rattle.copies.proofs.seconds.pick_run.Goals.{After-u16_at-pair}
-
-pub loop-i-init : goal.loop-i-init
-loop-i-init c = splice_none c.args.out.now c.args.at
 
 -- the byte that a turn stores
 second : (c : After-u16_at-pair)

@@ -3,12 +3,8 @@ use mathlib.Core.Path.{◌≡◌, ◌∙◌}
 use mathlib.Core.Bool.{false}
 use Prim.Native.Nat.{◌+◌, ◌*◌}
 use native.Mathlib.Omega.{arith}
-use Rattle.rules.proofs.Splices.{splice_none}
 use Rattle.copies.proofs.Items.{items_then}
 use Rattle.copies.proofs.turns.turn_blocks.Goals as goal
-
-pub loop-i-init : goal.loop-i-init
-loop-i-init c = splice_none c.args.out.now c.args.at
 
 pub loop-i-preserved : goal.loop-i-preserved
 loop-i-preserved c =
@@ -17,8 +13,3 @@ loop-i-preserved c =
     let from_here : 16 * i * 2 ≡ i * 32 = omega arith in
     let more : 16 * i + 16 ≡ 16 * (i + 1) = omega arith in
     c.turn_sixteen.ensures ∙ rw c.loop-i.invariant (rw (from_here, more) at (items_then false a.src.now a.from 2 (16 * i) 16 a.out.now a.at (omega arith) (omega arith)))
-
-pub returns : goal.returns
-returns c =
-    let e : c.loop-i.i ≡ c.args.blocks = omega arith in
-    rw e at c.loop-i.invariant

@@ -1,16 +1,12 @@
 -- Each turn writes one number more (`gather-step`).
-use mathlib.Core.Path.{◌≡◌, ◌∙◌}
+use mathlib.Core.Path.{◌∙◌}
 use mathlib.Core.Bool.{false}
 use Prim.Native.Nat.{ℕ, ◌+◌, ◌*◌}
 use native.Mathlib.Omega.{arith}
 use Rattle.copies.specs.Copies.{in_order, part}
-use Rattle.rules.proofs.Splices.{splice_none}
 use Rattle.copies.proofs.Laws.{gather-step, length_turned}
 use Rattle.copies.proofs.Items.{rows-room}
 use Rattle.copies.proofs.turns.turn_each.Goals as goal
-
-pub loop-i-init : goal.loop-i-init
-loop-i-init g c = splice_none c.args.out.now c.args.at
 
 pub loop-i-preserved : goal.loop-i-preserved
 loop-i-preserved g c =
@@ -22,8 +18,3 @@ loop-i-preserved g c =
     (gather-step (λ k. in_order false (part a.src.now (a.from + k * w) w)) w i
     (λ k h. length_turned false a.src.now (a.from + k * w) w (omega (arith, rows-room k a.count w (omega arith))))
     a.out.now a.at (omega (arith, rows-room i a.count w c.loop-i-test.true)))
-
-pub returns : goal.returns
-returns g c =
-    let e : c.loop-i.i ≡ c.args.count = omega arith in
-    rw e at c.loop-i.invariant
