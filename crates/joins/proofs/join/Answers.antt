@@ -5,7 +5,7 @@ use lib.ListN.{length}
 use Rattle.rules.specs.Numbers.{Bytes}
 use Rattle.rules.proofs.Numbers.{below-index}
 use Rattle.joins.proofs.Tabled.{first-within}
-use Rattle.joins.proofs.Joining.{refuses, count_few, first_good_by, ready, total-small, short_refuses, joins}
+use Rattle.joins.proofs.Joining.{refuses, first_good_by, ready, total-small, short_refuses, joins}
 use Rattle.joins.proofs.join.Goals as goal
 use Rattle.joins.proofs.join.Goals.{After-shared_slice_known-1}
 
@@ -28,18 +28,6 @@ pub lead_of-lead-requires : goal.lead_of-lead-requires
 lead_of-lead-requires c =
     let a = c.args in
     first_good_by a.parts.now (bytes (goal.at.lead_of-lead-requires c).After-shared_slice_known-1) a.out.now c.in-Ok.judged c.in-Ok.ensures.ok.0 c.in-Ok.ensures.ok.1
-
-pub total_of-total-requires : goal.total_of-total-requires
-total_of-total-requires c =
-    let a = c.args in
-    count_few a.parts.now (bytes (goal.at.total_of-total-requires c).After-shared_slice_known-1) a.out.now c.in-Ok.judged c.in-Ok.ensures.ok.0 c.in-Ok.ensures.ok.1
-
-pub overflow_add-total : goal.overflow_add-total
-overflow_add-total c =
-    let a = c.args in
-    let v = c.lead_of-lead in
-    let t = c.total_of-total in
-    omega (arith, total-small a.parts.now (bytes (goal.at.overflow_add-total c).After-shared_slice_known-1) a.out.now c.in-Ok.judged c.in-Ok.ensures.ok.0 c.in-Ok.ensures.ok.1 c.in-Ok.ensures.ok.2 v.result c.lead_of-lead.ensures t.result c.total_of-total.ensures)
 
 pub returns-then-out-total : goal.returns-then-out-total
 returns-then-out-total c =
@@ -67,11 +55,6 @@ write_joined-requires c =
       ready = ready a.parts.now (bytes (goal.at.write_joined-requires c).After-shared_slice_known-1) a.out.now c.in-Ok.judged c.in-Ok.ensures.ok.0 c.in-Ok.ensures.ok.1 c.in-Ok.ensures.ok.2 v.result c.lead_of-lead.ensures t.result c.total_of-total.ensures;
       total_in_bounds = omega (arith, c.if-out-total.false);
     }
-
-pub overflow_cast-result : goal.overflow_cast-result
-overflow_cast-result c =
-    let a = c.args in
-    omega (arith, count_few a.parts.now (bytes (goal.at.overflow_cast-result c).After-shared_slice_known-1) a.out.now c.in-Ok.judged c.in-Ok.ensures.ok.0 c.in-Ok.ensures.ok.1)
 
 pub overflow_cast-result-2 : goal.overflow_cast-result-2
 overflow_cast-result-2 c =

@@ -2,27 +2,16 @@
 use mathlib.Core.Path.{sym, ◌∙◌}
 use native.Mathlib.Omega.{arith}
 use mathlib.Core.Bool.{false≢true}
-use borrow.Author.Tests.{not-true, not-false}
+use borrow.Author.Tests.{not-true}
 use Rattle.rules.specs.Numbers.{Bytes}
 use Rattle.rules.proofs.Numbers.{below-index}
 use borrow.Author.Rules.{rules}
-use Rattle.joins.proofs.Joining.{counted, block-number}
+use Rattle.joins.proofs.Joining.{block-number}
 use Rattle.joins.proofs.joinable.Goals as goal
 use Rattle.joins.proofs.joinable.Goals.{After-shared_slice_known-1}
 
 bytes : (c : After-shared_slice_known-1) → Bytes c.args.parts.now
 bytes c = below-index 256 c.args.parts.now (λ i h. (c.type_inv.parts i).fits)
-
-pub returns-then-number-ne0 : goal.returns-then-number-ne0
-returns-then-number-ne0 c = record {
-  ok = search rules;
-  err = (c.if-number-ne0.true, λ room. sym (c.judge-judged.ensures.refused (omega (arith, c.if-number-ne0.true)) room));
-}
-
-pub is_block-requires : goal.is_block-requires
-is_block-requires c =
-    let a = c.args in
-    counted a.parts.now (bytes (goal.at.is_block-requires c).After-shared_slice_known-1) a.parts.now c.judge-judged.result c.judge-judged.ensures c.if-number-ne0.false
 
 pub returns-then-not-is_block : goal.returns-then-not-is_block
 returns-then-not-is_block c =
@@ -34,9 +23,3 @@ returns-then-not-is_block c =
         block-number a.parts.now (bytes (goal.at.returns-then-not-is_block c).After-shared_slice_known-1) a.parts.now c.judge-judged.result c.judge-judged.ensures c.if-number-ne0.false (λ e. false≢true (sym (not-true k.result c.if-not-is_block.true-raw) ∙ k.ensures.1 e)),
       );
     }
-
-pub returns : goal.returns
-returns c = record {
-  ok = (c.judge-judged.ensures, c.if-number-ne0.false, c.is_block.ensures.0 (not-false c.is_block.result c.if-not-is_block.false-raw));
-  err = search rules;
-}

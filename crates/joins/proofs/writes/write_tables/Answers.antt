@@ -9,7 +9,7 @@ use Rattle.rules.specs.Numbers.{Bytes, splice}
 use Rattle.rules.proofs.Numbers.{below-index}
 use Rattle.rules.proofs.Splices.{splice_none}
 use Rattle.parts.specs.Parts.{rows_of}
-use Rattle.joins.specs.Steps.{table_of, tables_to}
+use Rattle.joins.specs.Steps.{table_of}
 use Rattle.joins.proofs.Tabled.{start-within, first-within, can_place, row_ends, placed, first-start, next_start, table-room, next_table}
 use Rattle.joins.proofs.writes.write_tables.Goals as goal
 use Rattle.joins.proofs.writes.write_tables.Goals.{After-shared_slice_known-1, In-loop-length}
@@ -49,18 +49,6 @@ overflow_sub-long c =
     let a = c.args in
     start-within a.parts.now (bytes (goal.at.overflow_sub-long c).After-shared_slice_known-1) a.lead a.count a.end c.requires.gathered
 
--- the first table starts inside the payload
-inside : (c : After-shared_slice_known-1) → let a = c.args in get_or a.lead.lengths 0 0 + get_or a.lead.lengths 1 0 + get_or a.lead.lengths 2 0 ≤ a.end
-inside c =
-    let a = c.args in
-    omega (arith, first-start a.parts.now (bytes c) a.lead a.count a.end c.requires.gathered, row_ends a.parts.now (bytes c) a.lead a.count a.end c.requires.gathered 3 (omega arith))
-
-pub overflow_add-from : goal.overflow_add-from
-overflow_add-from c = omega (arith, inside (goal.at.overflow_add-from c).After-shared_slice_known-1, c.ranges)
-
-pub overflow_add-from-2 : goal.overflow_add-from-2
-overflow_add-from-2 c = omega (arith, inside (goal.at.overflow_add-from-2 c).After-shared_slice_known-1, c.ranges)
-
 pub loop-length-init : goal.loop-length-init
 loop-length-init c =
     let a = c.args in
@@ -79,12 +67,6 @@ pub overflow_add-from-in-loop-length : goal.overflow_add-from-in-loop-length
 overflow_add-from-in-loop-length c =
     omega (arith, row (goal.at.overflow_add-from-in-loop-length c).In-loop-length, c.requires.gathered.ends, first-within c.args.parts.now)
 
-pub overflow_mul-to : goal.overflow_mul-to
-overflow_mul-to c = omega (arith, room (goal.at.overflow_mul-to c).In-loop-length)
-
-pub overflow_add-to : goal.overflow_add-to
-overflow_add-to c = omega (arith, room (goal.at.overflow_add-to c).In-loop-length)
-
 pub loop-length-preserved : goal.loop-length-preserved
 loop-length-preserved c =
     let a = c.args in
@@ -101,10 +83,3 @@ loop-length-preserved c =
       omega (arith, sizes_are at, l.invariant.1, n.0),
       c.write_table.ensures ∙ ap (splice l.out l.to) rows ∙ ap₂ {C = List ℕ} (λ u m. splice u m (table_of (3 + k) s)) l.invariant.2 l.invariant.1 ∙ n.1 a.out.now a.at (omega (arith, room at, l.invariant.1)),
     )
-
-pub returns : goal.returns
-returns c =
-    let l = c.loop-length in
-    let a = c.args in
-    let five : l.length-index ≡ 5 = omega (arith, c.loop-length-test.false) in
-    l.invariant.2 ∙ ap (λ (m : ℕ). splice a.out.now a.at (tables_to m a.parts.now)) five

@@ -56,21 +56,6 @@ returns-then-not-is_narrow c =
       out_after = told.1;
     }
 
-pub overflow_cast-one : goal.overflow_cast-one
-overflow_cast-one c = omega (arith, (needed (goal.at.overflow_cast-one c).After-shared_slice_known-1).small)
-
-pub overflow_cast-two : goal.overflow_cast-two
-overflow_cast-two c = omega (arith, (needed (goal.at.overflow_cast-two c).After-shared_slice_known-1).small)
-
-pub overflow_add-total : goal.overflow_add-total
-overflow_add-total c = omega (arith, (needed (goal.at.overflow_add-total c).After-shared_slice_known-1).small)
-
-pub overflow_add-total-2 : goal.overflow_add-total-2
-overflow_add-total-2 c = omega (arith, (needed (goal.at.overflow_add-total-2 c).After-shared_slice_known-1).small)
-
-pub overflow_add-total-3 : goal.overflow_add-total-3
-overflow_add-total-3 c = omega (arith, (needed (goal.at.overflow_add-total-3 c).After-shared_slice_known-1).small)
-
 pub returns-then-out-total : goal.returns-then-out-total
 returns-then-out-total c =
     let s = c.args.block.now in
