@@ -21,10 +21,8 @@ fn pick_blocks(src: &[u8], from: usize, blocks: usize, out: &mut [u8], at: usize
     requires blocks_in_bounds_2 { at + blocks * 128 ≤ length out.old }
     ensures { out.new ≡ splice out.old at (items true src.now (from + 1) 2 1 (blocks * 128)) }
 {
-    let mut i = 0;
-    while i < blocks {
+    for i in 0..blocks {
         pick_run(src, from + i * 256, 128, out, at + i * 128);
-        i += 1;
     }
 }
 
@@ -34,11 +32,9 @@ fn pick_run(src: &[u8], from: usize, count: usize, out: &mut [u8], at: usize)
     requires count_in_bounds_2 { at + count ≤ length out.old }
     ensures { out.new ≡ splice out.old at (items true src.now (from + 1) 2 1 count) }
 {
-    let mut i = 0;
-    while i < count {
+    for i in 0..count {
         let pair = numbers::u16_at(src, from + i * 2, 1);
         let second = pair / 256;
         out[at + i] = second as u8;
-        i += 1;
     }
 }

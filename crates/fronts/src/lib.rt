@@ -27,22 +27,10 @@ pub fn lead_of(part: &[u8]) -> Lead
 {
     let start = parts::payload_at(part, 0);
     let order = part[start + 34] as u32;
-    let lengths = [
-        numbers::u32_at(part, start + 36, order),
-        numbers::u32_at(part, start + 40, order),
-        numbers::u32_at(part, start + 44, order),
-        numbers::u32_at(part, start + 48, order),
-        numbers::u32_at(part, start + 52, order),
-        numbers::u32_at(part, start + 56, order),
-        numbers::u32_at(part, start + 60, order),
-        numbers::u32_at(part, start + 64, order),
-        numbers::u32_at(part, start + 68, order),
-        numbers::u32_at(part, start + 72, order),
-    ];
     Lead {
         start,
         order,
-        lengths,
+        lengths: descriptor::lengths_of(part, start, order),
     }
 }
 

@@ -1,4 +1,4 @@
--- What writing the joined block needs (`fronting`, `sum`) and leaves (`front-written`), and what a join answers (`judge_refuses`, `block_refuses`, `short_refuses`, `joins`).
+-- What writing the joined block needs (`fronting`, `sum`) and leaves (`front-written`), and what a join answers (`refuses`, `short_refuses`, `joins`).
 use mathlib.Core.Path.{◌≡◌, refl, sym, ap, ap₂, ◌∙◌, subst}
 use mathlib.Core.Logic.{◌⊎◌, inl, inr}
 use Prim.Native.Nat.{ℕ, zero, suc, ◌+◌, ◌-◌, ◌*◌, ◌≤◌, ◌<◌}
@@ -113,7 +113,7 @@ answered zero w count long h e = absurd (h refl)
 answered (suc m) w count long h e = e
 
 module _ (s : List ℕ) (b : Bytes s) (out : List ℕ) where
-  refuses : (m : ℕ) → m ≡ join_refusal s (length out) → (m ≡ 0 → ⊥) → (w : Joined) → w ≡ refused_as m → (w ≡ joined_as s (length out)) × (out ≡ out_as s out)
+  pub refuses : (m : ℕ) → m ≡ join_refusal s (length out) → (m ≡ 0 → ⊥) → (w : Joined) → w ≡ refused_as m → (w ≡ joined_as s (length out)) × (out ≡ out_as s out)
   unfolding joined_as out_as
   refuses m e h w q = (
     answered m w (length (parts_in s)) (length (joined_bytes (parts_in s))) h q ∙ ap (λ (k : ℕ). answer k (length (parts_in s)) (length (joined_bytes (parts_in s)))) e,
@@ -121,15 +121,9 @@ module _ (s : List ℕ) (b : Bytes s) (out : List ℕ) where
   )
 
   module _ (r : Judged) (j : Judges s r) where
-    pub judge_refuses : (r.refusal ≡ 0 → ⊥) → (w : Joined) → w ≡ refused_as r.refusal → (w ≡ joined_as s (length out)) × (out ≡ out_as s out)
-    judge_refuses h = refuses r.refusal (sym (j.refused (omega (arith, h)) (length out))) h
-
     module _ (z : r.refusal ≡ 0) where
       pub count_few : r.count ≤ 1000
       count_few = omega (arith, j.count z, (j.together z).most)
-
-      pub some-parts : 1 ≤ length (parts_in s)
-      some-parts = (j.together z).some
 
       pub counted : Counted s r.count r.end
       counted = record { together = j.together z; count = j.count z; ends = j.ends z }
@@ -147,9 +141,6 @@ module _ (s : List ℕ) (b : Bytes s) (out : List ℕ) where
           go : (t : Bool) → all (joining (parts_in s)) ≡ t → all (joining (parts_in s)) ≡ false
           go true e = absurd (h ((joined_tests (parts_in s) (j.together z).good).0 e).block)
           go false e = e
-
-      pub block_refuses : (refusal (joined_bytes (parts_in s)) ≡ 0 → ⊥) → (w : Joined) → w ≡ refused_as 16 → (w ≡ joined_as s (length out)) × (out ≡ out_as s out)
-      block_refuses h = refuses 16 (block-number h (length out)) (λ y. omega (arith, y))
 
       -- it keeps them
       module _ (block : refusal (joined_bytes (parts_in s)) ≡ 0) where

@@ -1,7 +1,7 @@
 -- The front and the tables make the joined block (`whole`).
 use mathlib.Core.Path.{◌≡◌, refl, sym, ap, ap₂, ◌∙◌}
 use mathlib.Core.Logic.{◌⊎◌, inl, inr}
-use Prim.Native.Nat.{ℕ, suc, ◌+◌, ◌*◌, ◌/◌, ◌-◌, ◌≤◌, max}
+use Prim.Native.Nat.{ℕ, suc, ◌*◌, ◌/◌, ◌-◌, ◌≤◌, max}
 use native.Mathlib.Omega.{arith}
 use mathlib.Core.List.{List, [], ◌++◌, map, flatten, append_assoc, append-nil}
 use lib.ListN.{length, get_or, length-append}

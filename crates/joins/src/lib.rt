@@ -3,12 +3,14 @@
 
 mod writes;
 
-ghost use Rattle.std.specs.Prelude.{◌≡◌, true, ◌↔◌, ◌+◌, ◌*◌, ◌≤◌, length};
+ghost use Rattle.std.specs.Prelude.{◌≡◌, ℕ, true, ◌↔◌, ◌≤◌, length, IfOk, IfErr};
 ghost use Rattle.rules.specs.Rules.{refusal};
+ghost use Rattle.arrivals.specs.Arrivals.{Judges};
 ghost use Rattle.joining.specs.Join.{parts_in, joined_bytes, join_refusal};
 ghost use Rattle.joins.specs.Joins.{refused_as, joined_as, out_as};
 ghost use Rattle.joins.specs.Steps.{Counted, total_by};
 
+use arrivals::Judged;
 use fronts::Lead;
 
 // What a join answers: 0, how many parts there were and the bytes written; or its refusal's number and zeros.
@@ -24,16 +26,12 @@ pub fn join(parts: &[u8], out: &mut [u8]) -> Joined
     ensures value { result ≡ joined_as parts.now (length out.old) }
     ensures out_after { out.new ≡ out_as parts.now out.old }
 {
-    let judged = arrivals::judge(parts);
-    let number = judged.refusal;
-    if number != 0 {
-        return refused(number);
-    }
+    let judged = match joinable(parts) {
+        Ok(judged) => judged,
+        Err(number) => return refused(number),
+    };
     let end = judged.end;
     let count = judged.count;
-    if !is_block(parts, count, end) {
-        return refused(16);
-    }
     let lead = fronts::lead_of(&parts[0..end]);
     let total = total_of(lead, count);
     if out.len() < total + 11 {
@@ -51,17 +49,26 @@ pub fn join(parts: &[u8], out: &mut [u8]) -> Joined
 pub fn join_nowhere(parts: &[u8]) -> u32
     ensures { result ≡ join_refusal parts.now 0 }
 {
+    match joinable(parts) {
+        Ok(_) => 13,
+        Err(number) => number,
+    }
+}
+
+// Parts that belong together and whose joined block keeps the rules; or the number of the refusal, which is that in any room.
+fn joinable(parts: &[u8]) -> Result<Judged, u32>
+    ensures ok { IfOk result (λ j. Judges parts.now j × (j.refusal ≡ 0) × (refusal (joined_bytes (parts_in parts.now)) ≡ 0)) }
+    ensures err { IfErr result (λ n. ¬ (n ≡ 0) × ((room : ℕ) → n ≡ join_refusal parts.now room)) }
+{
     let judged = arrivals::judge(parts);
     let number = judged.refusal;
     if number != 0 {
-        return number;
+        return Err(number);
     }
-    let end = judged.end;
-    let count = judged.count;
-    if !is_block(parts, count, end) {
-        return 16;
+    if !is_block(parts, judged.count, judged.end) {
+        return Err(16);
     }
-    13
+    Ok(judged)
 }
 
 // The answer of a refused join.
@@ -81,16 +88,8 @@ fn total_of(lead: Lead, count: usize) -> usize
     ensures { result ≡ total_by lead count }
 {
     let a = lead.lengths;
-    sum_of(count, a[1], a[3], a[4], a[6], a[7])
-}
-
-// The same of these lengths.
-fn sum_of(count: usize, text: u32, trig: u32, ris: u32, one: u32, two: u32) -> usize
-    requires { count ≤ 1000 }
-    ensures { result ≡ 346 + (text + (count * trig + (ris + (count * one + count * two)))) }
-{
-    346 + (text as usize
-        + (count * trig as usize + (ris as usize + (count * one as usize + count * two as usize))))
+    let each = a[3] as usize + a[6] as usize + a[7] as usize;
+    346 + a[1] as usize + a[4] as usize + count * each
 }
 
 // Whether the joined block keeps the rules: its length, RISTIME in one part alone, and trigger times that do not run backwards. All else it has from its parts.

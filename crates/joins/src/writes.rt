@@ -30,13 +30,11 @@ fn write_tables(parts: &[u8], lead: Lead, count: usize, end: usize, out: &mut [u
     let lengths = lead.lengths;
     let mut from = lengths[0] as usize + lengths[1] as usize + lengths[2] as usize;
     let mut to = at;
-    let mut k: usize = 0;
-    while k < 5 {
-        let size = lengths[3 + k] as usize;
+    for &length in &lengths[3..8] {
+        let size = length as usize;
         write_table(parts, order, long, from, size, count, out, to);
         from += size;
         to += count * size;
-        k += 1;
     }
 }
 

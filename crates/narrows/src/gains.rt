@@ -1,19 +1,9 @@
 // 256 times a gain, by its bit pattern: no float is multiplied.
-ghost use Rattle.std.specs.Prelude.{◌≡◌, true, ◌<◌, T};
-ghost use Rattle.std.specs.Float.{binary32};
-ghost use Rattle.std.specs.Float.Ieee.{to_bits};
+ghost use Rattle.std.specs.Prelude.{◌≡◌, true, ◌<◌};
 ghost use Rattle.std.specs.Float.Ieee.Scale.{finite};
 ghost use Rattle.rules.specs.Rules.{finite32};
 ghost use Rattle.narrowing.specs.Narrow.{widened, times256};
 ghost use Rattle.narrows.specs.Steps.{doubled, grown};
-
-// The bits of a finite gain.
-pub(crate) fn bits(gain: f32) -> u32
-    requires { T (finite gain) }
-    ensures { result ≡ to_bits binary32 gain }
-{
-    f32::to_bits(gain)
-}
 
 // Whether 256 times the gain with these bits is finite: it is below 2^120 in size.
 pub(crate) fn is_narrow(gain: u32) -> bool
@@ -40,10 +30,8 @@ fn grow(pattern: u32) -> u32
     ensures upper_bound { result < 0x7f80_0000 }
 {
     let mut p = pattern;
-    let mut k: u32 = 0;
-    while k < 8 {
+    for _ in 0..8u32 {
         p = double(p);
-        k += 1;
     }
     p
 }

@@ -14,8 +14,7 @@ pub(crate) fn narrow_word(block: &[u8], o: Opened, out: &mut [u8]) -> Narrowed
     ensures value { result ≡ narrowed_as block.now (length out.old) }
     ensures out_after { out.new ≡ out_as block.now out.old }
 {
-    let c = o.calibration;
-    let gain = crate::gains::bits(c.gain);
+    let gain = o.calibration.gain.to_bits();
     if !crate::gains::is_narrow(gain) {
         return crate::refused(19);
     }

@@ -12,9 +12,3 @@ returns-then-same c =
     c.copy_bytes.ensures
     ∙ ap (splice a.out.now a.at) (sym (items-part a.src.now a.from a.width a.count))
     ∙ ap (λ (s : Bool). splice a.out.now a.at (items s a.src.now a.from a.width a.width a.count)) (sym c.if-same.true)
-
-pub returns : goal.returns
-returns c =
-    let a = c.args in
-    c.turn_items.ensures
-    ∙ ap (λ (s : Bool). splice a.out.now a.at (items s a.src.now a.from a.width a.width a.count)) (sym c.if-same.false)

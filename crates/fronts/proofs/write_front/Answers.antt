@@ -19,39 +19,18 @@ bytes c = below-index 256 c.args.part.now (λ i h. (c.type_inv.part i).fits)
 needed : (c : After-shared_slice_known-1) → FrontNeeds c.args.part.now c.args.lead c.args.count
 needed c = front_needs c.args.part.now (bytes c) c.args.lead c.args.count c.requires.fronting
 
-pub overflow_add-start : goal.overflow_add-start
-overflow_add-start c = omega (arith, (needed (goal.at.overflow_add-start c).After-shared_slice_known-1).head-room)
-
 pub u32_at-points-requires : goal.u32_at-points-requires
 u32_at-points-requires c = omega (arith, (needed (goal.at.u32_at-points-requires c).After-shared_slice_known-1).head-room)
-
-pub overflow_add-start-2 : goal.overflow_add-start-2
-overflow_add-start-2 c = omega (arith, (needed (goal.at.overflow_add-start-2 c).After-shared_slice_known-1).head-room)
 
 pub u32_at-first-requires : goal.u32_at-first-requires
 u32_at-first-requires c = omega (arith, (needed (goal.at.u32_at-first-requires c).After-shared_slice_known-1).head-room)
 
-pub overflow_add-start-3 : goal.overflow_add-start-3
-overflow_add-start-3 c = omega (arith, (needed (goal.at.overflow_add-start-3 c).After-shared_slice_known-1).head-room)
-
 pub u32_at-sparsing-requires : goal.u32_at-sparsing-requires
 u32_at-sparsing-requires c = omega (arith, (needed (goal.at.u32_at-sparsing-requires c).After-shared_slice_known-1).head-room)
-
-pub overflow_mul-trig : goal.overflow_mul-trig
-overflow_mul-trig c = omega (arith, (needed (goal.at.overflow_mul-trig c).After-shared_slice_known-1).trig)
-
-pub overflow_mul-one : goal.overflow_mul-one
-overflow_mul-one c = omega (arith, (needed (goal.at.overflow_mul-one c).After-shared_slice_known-1).one)
-
-pub overflow_mul-two : goal.overflow_mul-two
-overflow_mul-two c = omega (arith, (needed (goal.at.overflow_mul-two c).After-shared_slice_known-1).two)
 
 pub overflow_mul-all : goal.overflow_mul-all
 overflow_mul-all c =
     omega (arith, count_room c.args.part.now (bytes (goal.at.overflow_mul-all c).After-shared_slice_known-1) c.args.lead c.args.count c.requires.fronting c.u32_at-points.result c.u32_at-points.ensures)
-
-pub put_header-requires : goal.put_header-requires
-put_header-requires c = omega (arith, c.requires.lengths_in_bounds)
 
 pub write_head-requires : goal.write_head-requires
 write_head-requires c =
@@ -61,9 +40,6 @@ write_head-requires c =
       start_in_bounds = n.head-room;
       at_in_bounds = omega (arith, c.requires.lengths_in_bounds, c.put_header.auto);
     }
-
-pub overflow_add-start-4 : goal.overflow_add-start-4
-overflow_add-start-4 c = omega (arith, (needed (goal.at.overflow_add-start-4 c).After-shared_slice_known-1).head-room)
 
 pub copy_bytes-requires : goal.copy_bytes-requires
 copy_bytes-requires c =

@@ -1,6 +1,6 @@
 -- Its length, one part alone, RISTIME, no times, and times.
 use mathlib.Core.Path.{◌≡◌, sym, ap, ◌∙◌, subst}
-use Prim.Native.Nat.{ℕ, ◌+◌, ◌-◌, ◌≤◌}
+use Prim.Native.Nat.{ℕ, ◌+◌, ◌-◌}
 use native.Mathlib.Omega.{arith}
 use lib.ListN.{get_or}
 use Rattle.rules.specs.Numbers.{Bytes}
@@ -9,7 +9,7 @@ use Rattle.rules.proofs.Numbers.{below-index}
 use Rattle.parts.proofs.Tables.{first_good}
 use Rattle.arrivals.specs.Arrivals.{Timed, times_at}
 use Rattle.joins.specs.Steps.{Gathered, start_by}
-use Rattle.joins.proofs.Tabled.{first_part_lem, gathered_by, start-within, first-within, row_ends, first-start}
+use Rattle.joins.proofs.Tabled.{first_part_lem, gathered_by, start-within, first-within, first-start}
 use Rattle.joins.proofs.Rising.{timed, trig-wide, too_long, one-part, many_ris, no_times, by_times}
 use Rattle.joins.proofs.is_block.Goals as goal
 use Rattle.joins.proofs.is_block.Goals.{After-lead_of-lead, After-shared_slice_known-1}
@@ -25,21 +25,12 @@ gathered c = let a = c.args in gathered_by a.parts.now c.lead_of-lead.result a.c
 starts : (c : After-lead_of-lead) → let l = c.lead_of-lead.result.lengths in get_or l 0 0 + get_or l 1 0 + get_or l 2 0 ≡ start_by c.lead_of-lead.result 3
 starts c = let a = c.args in first-start a.parts.now (bytes (goal.at.After-lead_of-lead c).After-shared_slice_known-1) c.lead_of-lead.result a.count a.end (gathered c)
 
--- which is inside its payload
-inside : (c : After-lead_of-lead) → start_by c.lead_of-lead.result 3 ≤ c.args.end
-inside c =
-    let a = c.args in
-    omega (arith, row_ends a.parts.now (bytes (goal.at.After-lead_of-lead c).After-shared_slice_known-1) c.lead_of-lead.result a.count a.end (gathered c) 3 (omega arith))
-
 pub slice_bounds-lead_of-end : goal.slice_bounds-lead_of-end
 slice_bounds-lead_of-end c = omega (arith, c.requires.ends, first-within c.args.parts.now)
 
 pub lead_of-lead-requires : goal.lead_of-lead-requires
 lead_of-lead-requires c =
     ap refusal (first_part_lem c.args.parts.now c.args.end c.requires.together.some c.requires.ends) ∙ first_good c.args.parts.now (bytes (goal.at.lead_of-lead-requires c).After-shared_slice_known-1) c.requires.together
-
-pub total_of-requires : goal.total_of-requires
-total_of-requires c = omega (arith, c.requires.count, c.requires.together.most)
 
 pub returns-then-total_of-gt16777216 : goal.returns-then-total_of-gt16777216
 returns-then-total_of-gt16777216 c =
@@ -60,12 +51,6 @@ pub returns-then-lengths-lt1 : goal.returns-then-lengths-lt1
 returns-then-lengths-lt1 c =
     let a = c.args in
     no_times a.parts.now (bytes (goal.at.returns-then-lengths-lt1 c).After-shared_slice_known-1) c.lead_of-lead.result a.count a.end (gathered (goal.at.returns-then-lengths-lt1 c).After-lead_of-lead) c.total_of.result c.total_of.ensures (omega (arith, c.if-total_of-gt16777216.false)) (omega (arith, c.if-lengths-gt0.false)) c.if-lengths-lt1.true
-
-pub overflow_add-trig : goal.overflow_add-trig
-overflow_add-trig c = omega (arith, starts (goal.at.overflow_add-trig c).After-lead_of-lead, inside (goal.at.overflow_add-trig c).After-lead_of-lead, c.ranges)
-
-pub overflow_add-trig-2 : goal.overflow_add-trig-2
-overflow_add-trig-2 c = omega (arith, starts (goal.at.overflow_add-trig-2 c).After-lead_of-lead, inside (goal.at.overflow_add-trig-2 c).After-lead_of-lead, c.ranges)
 
 pub overflow_sub-end : goal.overflow_sub-end
 overflow_sub-end c =

@@ -1,15 +1,12 @@
 -- The loop gathers one byte more at each turn.
 use mathlib.Core.Path.{◌≡◌}
 use mathlib.Core.List.{[], ◌∷◌}
-use Prim.Native.Nat.{◌+◌, ◌*◌, ◌-◌, ◌≤◌}
-use lib.ListN.{length, get_or}
+use Prim.Native.Nat.{◌+◌, ◌*◌}
+use lib.ListN.{get_or}
 use Rattle.rules.specs.Numbers.{splice}
 use Rattle.copies.specs.Copies.{gather}
 use Rattle.copies.proofs.picks.pick_bytes.Given as goal
 
 abbrev pub invariant-loop-i : goal.invariant-loop-i
 invariant-loop-i l =
-    (l.i ≤ l.count) × (length l.out ≡ length l.initial.out) × (l.out ≡ splice l.initial.out l.at (gather (λ k. get_or l.src (l.from + k * l.step) 0 ∷ []) l.i))
-
-abbrev pub decreases-loop-i : goal.decreases-loop-i
-decreases-loop-i l = l.count - l.i
+    l.out ≡ splice l.initial.out l.at (gather (λ k. get_or l.src (l.from + k * l.step) 0 ∷ []) l.i)

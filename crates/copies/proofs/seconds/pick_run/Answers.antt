@@ -1,22 +1,16 @@
 -- The loop gathers one second byte more at each turn.
 use mathlib.Core.Path.{◌≡◌, refl, ap, ◌∙◌}
 use mathlib.Core.List.{[], ◌∷◌}
-use Prim.Native.Nat.{ℕ, ◌+◌, ◌*◌, ◌-◌, ◌/◌}
+use Prim.Native.Nat.{ℕ, ◌+◌, ◌*◌, ◌/◌}
 use native.Mathlib.Nat.{mul-one}
 use native.Mathlib.Omega.{arith}
-use lib.ListN.{length, get_or, length-set}
+use lib.ListN.{get_or}
 use lib.Seq.{sets-eq}
 use Rattle.rules.specs.Numbers.{splice}
-use Rattle.copies.specs.Copies.{gather}
-use Rattle.rules.proofs.Splices.{splice_none}
 use Rattle.copies.proofs.Laws.{gather-step}
 use Rattle.copies.proofs.Items.{items-bytes, second_of}
-use borrow.Author.Rules.{rules}
 use Rattle.copies.proofs.seconds.pick_run.Goals as goal
 use Rattle.copies.proofs.seconds.pick_run.Goals.{After-u16_at-pair}
-
-pub loop-i-init : goal.loop-i-init
-loop-i-init c = (search rules, refl, splice_none c.args.out.now c.args.at)
 
 -- the byte that a turn stores
 second : (c : After-u16_at-pair)
@@ -32,20 +26,14 @@ second c =
 pub loop-i-preserved : goal.loop-i-preserved
 loop-i-preserved c =
     let a = c.args in
-    let i = c.loop-i.i in (
-      omega arith,
-      simp length-set c.loop-i.invariant.1,
-      rw (second (goal.at.loop-i-preserved c).After-u16_at-pair)
-          (sets-eq (get_or a.src.now (a.from + 1 + i * 2) 0 ∷ []) c.loop-i.out (a.at + i) (omega arith)
-          ∙ rw c.loop-i.invariant.2
-          (rw mul-one at (gather-step (λ k. get_or a.src.now (a.from + 1 + k * 2) 0 ∷ []) 1 i (λ k h. refl) a.out.now a.at (simp mul-one (omega arith))))),
-    )
-
-pub shape_of-out : goal.shape_of-out
-shape_of-out c = c.loop-i.invariant.1
+    let i = c.loop-i.i in
+    rw (second (goal.at.loop-i-preserved c).After-u16_at-pair)
+    (sets-eq (get_or a.src.now (a.from + 1 + i * 2) 0 ∷ []) c.loop-i.out (a.at + i) (omega arith)
+    ∙ rw c.loop-i.invariant
+    (rw mul-one at (gather-step (λ k. get_or a.src.now (a.from + 1 + k * 2) 0 ∷ []) 1 i (λ k h. refl) a.out.now a.at (simp mul-one (omega arith)))))
 
 pub returns : goal.returns
 returns c =
     let a = c.args in
     let e : c.loop-i.i ≡ a.count = omega arith in
-    rw e at c.loop-i.invariant.2 ∙ ap (splice a.out.now a.at) (items-bytes a.src.now (a.from + 1) 2 a.count (λ k h. omega (arith, c.requires.count_in_bounds, c.requires.count_in_bounds_2)))
+    rw e at c.loop-i.invariant ∙ ap (splice a.out.now a.at) (items-bytes a.src.now (a.from + 1) 2 a.count (λ k h. omega (arith, c.requires.count_in_bounds, c.requires.count_in_bounds_2)))

@@ -1,32 +1,15 @@
 -- Each turn writes eight items more (`items_then`).
-use mathlib.Core.Path.{◌≡◌, refl, ◌∙◌}
+use mathlib.Core.Path.{◌≡◌, ◌∙◌}
 use mathlib.Core.Bool.{false}
-use Prim.Native.Nat.{◌+◌, ◌*◌, ◌-◌}
+use Prim.Native.Nat.{◌+◌, ◌*◌}
 use native.Mathlib.Omega.{arith}
-use Rattle.copies.specs.Copies.{items}
-use Rattle.rules.proofs.Splices.{splice_none}
 use Rattle.copies.proofs.Items.{items_then}
-use borrow.Author.Rules.{rules}
 use Rattle.copies.proofs.turns.turn_blocks.Goals as goal
-
-pub loop-i-init : goal.loop-i-init
-loop-i-init c = (search rules, refl, splice_none c.args.out.now c.args.at)
 
 pub loop-i-preserved : goal.loop-i-preserved
 loop-i-preserved c =
     let a = c.args in
     let i = c.loop-i.i in
     let from_here : 16 * i * 2 ≡ i * 32 = omega arith in
-    let more : 16 * i + 16 ≡ 16 * (i + 1) = omega arith in (
-      omega arith,
-      c.turn_sixteen.auto.out ∙ c.loop-i.invariant.1,
-      c.turn_sixteen.ensures ∙ rw c.loop-i.invariant.2 (rw (from_here, more) at (items_then false a.src.now a.from 2 (16 * i) 16 a.out.now a.at (omega arith) (omega arith))),
-    )
-
-pub shape_of-out : goal.shape_of-out
-shape_of-out c = c.loop-i.invariant.1
-
-pub returns : goal.returns
-returns c =
-    let e : c.loop-i.i ≡ c.args.blocks = omega arith in
-    rw e at c.loop-i.invariant.2
+    let more : 16 * i + 16 ≡ 16 * (i + 1) = omega arith in
+    c.turn_sixteen.ensures ∙ rw c.loop-i.invariant (rw (from_here, more) at (items_then false a.src.now a.from 2 (16 * i) 16 a.out.now a.at (omega arith) (omega arith)))

@@ -8,7 +8,7 @@ use Rattle.rules.specs.Numbers.{Bytes, splice}
 use Rattle.rules.proofs.Numbers.{below-index}
 use Rattle.joins.specs.Steps.{tables_to}
 use Rattle.joins.proofs.Tabled.{first-within}
-use Rattle.joins.proofs.Joining.{few, sum, fronting, front-written}
+use Rattle.joins.proofs.Joining.{sum, fronting, front-written}
 use Rattle.joins.proofs.writes.write_joined.Goals as goal
 use Rattle.joins.proofs.writes.write_joined.Goals.{After-shared_slice_known-1}
 
@@ -17,11 +17,6 @@ bytes c = below-index 256 c.args.parts.now (λ i h. (c.type_inv.parts i).fits)
 
 pub slice_bounds-write_front-end : goal.slice_bounds-write_front-end
 slice_bounds-write_front-end c = omega (arith, c.requires.ready.gathered.ends, first-within c.args.parts.now)
-
-pub overflow_cast-count : goal.overflow_cast-count
-overflow_cast-count c =
-    let a = c.args in
-    omega (arith, few a.parts.now (bytes (goal.at.overflow_cast-count c).After-shared_slice_known-1) a.lead a.count a.end a.total c.requires.ready)
 
 pub write_front-requires : goal.write_front-requires
 write_front-requires c =

@@ -1,97 +1,85 @@
 -- Each table stands behind the one before.
-use mathlib.Core.Path.{◌≡◌, refl, ap, ap₂, ◌∙◌}
-use Prim.Native.Nat.{ℕ, ◌+◌, ◌-◌, ◌*◌, ◌≤◌}
+use mathlib.Core.Path.{◌≡◌, ap, ap₂, ◌∙◌}
+use Prim.Native.Nat.{ℕ, ◌+◌, ◌-◌, ◌*◌, ◌≤◌, ◌<◌}
 use native.Mathlib.Omega.{arith}
 use mathlib.Core.List.{List}
-use lib.ListN.{length, get_or}
+use lib.ListN.{length, get_or, take, drop}
+use lib.Seq.{get_or-take, get_or-drop}
 use Rattle.rules.specs.Numbers.{Bytes, splice}
 use Rattle.rules.proofs.Numbers.{below-index}
 use Rattle.rules.proofs.Splices.{splice_none}
 use Rattle.parts.specs.Parts.{rows_of}
-use Rattle.joins.specs.Steps.{table_of, tables_to}
+use Rattle.joins.specs.Steps.{table_of}
 use Rattle.joins.proofs.Tabled.{start-within, first-within, can_place, row_ends, placed, first-start, next_start, table-room, next_table}
 use Rattle.joins.proofs.writes.write_tables.Goals as goal
-use Rattle.joins.proofs.writes.write_tables.Goals.{After-shared_slice_known-1, In-loop-k}
+use Rattle.joins.proofs.writes.write_tables.Goals.{After-shared_slice_known-1, In-loop-length}
 
 bytes : (c : After-shared_slice_known-1) → Bytes c.args.parts.now
 bytes c = below-index 256 c.args.parts.now (λ i h. (c.type_inv.parts i).fits)
 
+-- the length of the turn is one of the ten
+abbrev size : In-loop-length → ℕ
+size c = get_or (take 5 (drop 3 c.args.lead.lengths)) c.loop-length.length-index 0
+
+size_is : (c : In-loop-length) → size c ≡ get_or c.args.lead.lengths (3 + c.loop-length.length-index) 0
+size_is c =
+    let k = c.loop-length.length-index in
+    let ls : List ℕ = drop 3 c.args.lead.lengths in
+    get_or-take 5 ls k 0 (omega (arith, c.loop-length-test.true)) ∙ get_or-drop 3 c.args.lead.lengths k 0
+
+sizes_are : (c : In-loop-length) → c.args.count * size c ≡ c.args.count * get_or c.args.lead.lengths (3 + c.loop-length.length-index) 0
+sizes_are c = ap (λ (m : ℕ). c.args.count * m) (size_is c)
+
 -- there is room for the table of the turn
-room : (c : In-loop-k) → let a = c.args in let l = c.loop-k in l.to + a.count * get_or a.lead.lengths (3 + l.k) 0 ≤ length a.out.now
+room : (c : In-loop-length) → c.loop-length.to + c.args.count * size c ≤ length c.args.out.now
 room c =
     let a = c.args in
-    let l = c.loop-k in
-    omega (arith, l.invariant.2, table-room a.parts.now (bytes (goal.at.In-loop-k c).After-shared_slice_known-1) a.lead a.count a.end c.requires.gathered l.k (omega (arith, c.loop-k-test.true)), c.requires.parts_in_bounds)
+    let l = c.loop-length in
+    omega (arith, sizes_are c, l.invariant.1, table-room a.parts.now (bytes (goal.at.In-loop-length c).After-shared_slice_known-1) a.lead a.count a.end c.requires.gathered l.length-index (omega (arith, c.loop-length-test.true)), c.requires.parts_in_bounds)
 
 -- and it stands in each payload
-row : (c : In-loop-k) → let a = c.args in let l = c.loop-k in l.from + get_or a.lead.lengths (3 + l.k) 0 ≤ a.end - a.lead.start
+row : (c : In-loop-length) → c.loop-length.from + size c ≤ c.args.end - c.args.lead.start
 row c =
     let a = c.args in
-    let l = c.loop-k in
-    omega (arith, l.invariant.1, row_ends a.parts.now (bytes (goal.at.In-loop-k c).After-shared_slice_known-1) a.lead a.count a.end c.requires.gathered (3 + l.k) (omega (arith, c.loop-k-test.true)))
+    let l = c.loop-length in
+    omega (arith, size_is c, l.invariant.0, row_ends a.parts.now (bytes (goal.at.In-loop-length c).After-shared_slice_known-1) a.lead a.count a.end c.requires.gathered (3 + l.length-index) (omega (arith, c.loop-length-test.true)))
 
 pub overflow_sub-long : goal.overflow_sub-long
 overflow_sub-long c =
     let a = c.args in
     start-within a.parts.now (bytes (goal.at.overflow_sub-long c).After-shared_slice_known-1) a.lead a.count a.end c.requires.gathered
 
--- the first table starts inside the payload
-inside : (c : After-shared_slice_known-1) → let a = c.args in get_or a.lead.lengths 0 0 + get_or a.lead.lengths 1 0 + get_or a.lead.lengths 2 0 ≤ a.end
-inside c =
+pub loop-length-init : goal.loop-length-init
+loop-length-init c =
     let a = c.args in
-    omega (arith, first-start a.parts.now (bytes c) a.lead a.count a.end c.requires.gathered, row_ends a.parts.now (bytes c) a.lead a.count a.end c.requires.gathered 3 (omega arith))
-
-pub overflow_add-from : goal.overflow_add-from
-overflow_add-from c = omega (arith, inside (goal.at.overflow_add-from c).After-shared_slice_known-1, c.ranges)
-
-pub overflow_add-from-2 : goal.overflow_add-from-2
-overflow_add-from-2 c = omega (arith, inside (goal.at.overflow_add-from-2 c).After-shared_slice_known-1, c.ranges)
-
-pub loop-k-init : goal.loop-k-init
-loop-k-init c =
-    let a = c.args in
-    (omega arith, first-start a.parts.now (bytes (goal.at.loop-k-init c).After-shared_slice_known-1) a.lead a.count a.end c.requires.gathered, omega arith, splice_none a.out.now a.at, refl)
+    (first-start a.parts.now (bytes (goal.at.loop-length-init c).After-shared_slice_known-1) a.lead a.count a.end c.requires.gathered, omega arith, splice_none a.out.now a.at)
 
 pub write_table-requires : goal.write_table-requires
 write_table-requires c =
     let a = c.args in
     record {
       placeable = can_place a.parts.now (bytes (goal.at.write_table-requires c).After-shared_slice_known-1) a.lead a.count a.end c.requires.gathered;
-      size_bound = (row (goal.at.write_table-requires c).In-loop-k, c.requires.gathered.count);
-      size_in_bounds = omega (arith, room (goal.at.write_table-requires c).In-loop-k, c.loop-k.invariant.4);
+      size_bound = (row (goal.at.write_table-requires c).In-loop-length, c.requires.gathered.count);
+      size_in_bounds = omega (arith, room (goal.at.write_table-requires c).In-loop-length, c.loop-length.auto.out);
     }
 
-pub overflow_add-from-in-loop-k : goal.overflow_add-from-in-loop-k
-overflow_add-from-in-loop-k c =
-    omega (arith, row (goal.at.overflow_add-from-in-loop-k c).In-loop-k, c.requires.gathered.ends, first-within c.args.parts.now)
+pub overflow_add-from-in-loop-length : goal.overflow_add-from-in-loop-length
+overflow_add-from-in-loop-length c =
+    omega (arith, row (goal.at.overflow_add-from-in-loop-length c).In-loop-length, c.requires.gathered.ends, first-within c.args.parts.now)
 
-pub overflow_mul-to : goal.overflow_mul-to
-overflow_mul-to c = omega (arith, room (goal.at.overflow_mul-to c).In-loop-k)
-
-pub overflow_add-to : goal.overflow_add-to
-overflow_add-to c = omega (arith, room (goal.at.overflow_add-to c).In-loop-k)
-
-pub loop-k-preserved : goal.loop-k-preserved
-loop-k-preserved c =
-    let w = c.write_table in
+pub loop-length-preserved : goal.loop-length-preserved
+loop-length-preserved c =
     let a = c.args in
-    let l = c.loop-k in
-    let n = next_table a.parts.now (bytes (goal.at.loop-k-preserved c).After-shared_slice_known-1) a.lead a.count a.end c.requires.gathered l.k (omega (arith, c.loop-k-test.true)) in
-    let rows : rows_of l.from (get_or a.lead.lengths (3 + l.k) 0) 0 a.count a.parts.now ≡ table_of (3 + l.k) a.parts.now =
-    ap (λ (m : ℕ). rows_of m (get_or a.lead.lengths (3 + l.k) 0) 0 a.count a.parts.now) l.invariant.1 ∙ placed a.parts.now (bytes (goal.at.loop-k-preserved c).After-shared_slice_known-1) a.lead a.count a.end c.requires.gathered (3 + l.k) (omega (arith, c.loop-k-test.true)) in (
-      omega (arith, c.loop-k-test.true),
-      ap (λ (m : ℕ). m + get_or a.lead.lengths (3 + l.k) 0) l.invariant.1 ∙ next_start a.parts.now (bytes (goal.at.loop-k-preserved c).After-shared_slice_known-1) a.lead a.count a.end c.requires.gathered l.k (omega (arith, c.loop-k-test.true)),
-      omega (arith, l.invariant.2, n.0),
-      c.write_table.ensures ∙ ap (splice l.out l.to) rows ∙ ap₂ {C = List ℕ} (λ u m. splice u m (table_of (3 + l.k) a.parts.now)) l.invariant.3 l.invariant.2 ∙ n.1 a.out.now a.at (omega (arith, room (goal.at.loop-k-preserved c).In-loop-k, l.invariant.2)),
-      c.write_table.auto.out ∙ l.invariant.4,
+    let s = a.parts.now in
+    let b = bytes (goal.at.loop-length-preserved c).After-shared_slice_known-1 in
+    let at = (goal.at.loop-length-preserved c).In-loop-length in
+    let l = c.loop-length in
+    let k : ℕ = l.length-index in
+    let below : k < 5 = omega (arith, c.loop-length-test.true) in
+    let n = next_table s b a.lead a.count a.end c.requires.gathered k below in
+    let rows : rows_of l.from (size at) 0 a.count s ≡ table_of (3 + k) s =
+    ap₂ {C = List ℕ} (λ m w. rows_of m w 0 a.count s) l.invariant.0 (size_is at) ∙ placed s b a.lead a.count a.end c.requires.gathered (3 + k) (omega arith) in (
+      omega (arith, size_is at, l.invariant.0, next_start s b a.lead a.count a.end c.requires.gathered k below),
+      omega (arith, sizes_are at, l.invariant.1, n.0),
+      c.write_table.ensures ∙ ap (splice l.out l.to) rows ∙ ap₂ {C = List ℕ} (λ u m. splice u m (table_of (3 + k) s)) l.invariant.2 l.invariant.1 ∙ n.1 a.out.now a.at (omega (arith, room at, l.invariant.1)),
     )
-
-pub shape_of-out : goal.shape_of-out
-shape_of-out c = c.loop-k.invariant.4
-
-pub returns : goal.returns
-returns c =
-    let l = c.loop-k in
-    let a = c.args in
-    let five : l.k ≡ 5 = omega (arith, l.invariant.0, c.loop-k-test.false) in
-    l.invariant.3 ∙ ap (λ (m : ℕ). splice a.out.now a.at (tables_to m a.parts.now)) five

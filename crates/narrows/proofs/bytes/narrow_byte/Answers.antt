@@ -14,12 +14,6 @@ use Rattle.narrows.proofs.bytes.narrow_byte.Goals.{After-shared_slice_known-1}
 needed : (c : After-shared_slice_known-1) → ByteNeeds c.args.block.now c.args.o (get_or c.args.o.layout.starts 7 0 + get_or c.args.o.layout.lengths 7 0)
 needed c = byte_needs c.args.block.now (below-index 256 c.args.block.now (λ i h. (c.type_inv.block i).fits)) c.args.o c.requires.0 c.requires.1 c.requires.2
 
-pub overflow_add-total : goal.overflow_add-total
-overflow_add-total c = omega (arith, (needed (goal.at.overflow_add-total c).After-shared_slice_known-1).small)
-
-pub overflow_add-total-2 : goal.overflow_add-total-2
-overflow_add-total-2 c = omega (arith, (needed (goal.at.overflow_add-total-2 c).After-shared_slice_known-1).small)
-
 pub returns-then-out-total : goal.returns-then-out-total
 returns-then-out-total c =
     let n = needed (goal.at.returns-then-out-total c).After-shared_slice_known-1 in

@@ -5,6 +5,7 @@ use mathlib.Core.Logic.{inr}
 use mathlib.Core.List.{List}
 use Prim.Native.Nat.{ℕ, ◌/◌}
 use native.Mathlib.Omega.{arith}
+use lib.Ieee.{binary32, to_bits}
 use lib.Ieee.Scale.{finite}
 use lib.ListN.{length, get_or}
 use Rattle.rules.specs.Numbers.{splice}
@@ -13,10 +14,11 @@ use Rattle.rules.proofs.Numbers.{below-index}
 use Rattle.block.proofs.Ladder.{passes, fails}
 use Rattle.narrowing.specs.Narrow.{widened, times256, gain}
 use Rattle.narrowing.proofs.Accepted.{says-narrow}
+use Rattle.numbers.proofs.Patterns.{no_nan}
 use Rattle.narrows.specs.Steps.{word_block}
 use Rattle.narrows.proofs.Answers.{WordNeeds, word_needs, gain-number, room-number, refuses, narrows}
 use Rattle.narrows.proofs.words.narrow_word.Goals as goal
-use Rattle.narrows.proofs.words.narrow_word.Goals.{After-bits-gain, After-is_narrow, After-shared_slice_known-1}
+use Rattle.narrows.proofs.words.narrow_word.Goals.{After-is_narrow, After-shared_slice_known-1}
 
 needed : (c : After-shared_slice_known-1) → WordNeeds c.args.block.now c.args.o (get_or c.args.o.layout.starts 6 0) (get_or c.args.o.layout.lengths 6 0 / 2) (get_or c.args.o.layout.lengths 7 0 / 2)
 needed c = word_needs c.args.block.now (below-index 256 c.args.block.now (λ i h. (c.type_inv.block i).fits)) c.args.o c.requires.0 c.requires.1 c.requires.2
@@ -25,24 +27,25 @@ needed c = word_needs c.args.block.now (below-index 256 c.args.block.now (λ i h
 abbrev old : After-shared_slice_known-1 → ℕ
 old c = gain (opened c.args.block.now).head
 
-bits_are : (c : After-bits-gain) → c.bits-gain.result ≡ old (goal.at.After-bits-gain c).After-shared_slice_known-1
-bits_are c = c.bits-gain.ensures ∙ (needed (goal.at.After-bits-gain c).After-shared_slice_known-1).bits
+-- the gain's bits, as the code has them
+abbrev bits : After-shared_slice_known-1 → ℕ
+bits c = to_bits binary32 c.args.o.calibration.gain
 
-gain-good : (c : After-bits-gain) → finite32 c.bits-gain.result ≡ true
-gain-good c = ap finite32 (bits_are c) ∙ (needed (goal.at.After-bits-gain c).After-shared_slice_known-1).good
+gain-good : (c : After-shared_slice_known-1) → finite32 (bits c) ≡ true
+gain-good c = ap finite32 (needed c).bits ∙ (needed c).good
 
 -- what the bits are tested for
 test : (c : After-is_narrow) → c.is_narrow.result ≡ finite (widened (old (goal.at.After-is_narrow c).After-shared_slice_known-1))
-test c = c.is_narrow.ensures ∙ ap (λ (n : ℕ). finite (widened n)) (bits_are (goal.at.After-is_narrow c).After-bits-gain)
+test c = c.is_narrow.ensures ∙ ap (λ (n : ℕ). finite (widened n)) (needed (goal.at.After-is_narrow c).After-shared_slice_known-1).bits
 
-finite-bits : (c : After-is_narrow) → finite (widened (old (goal.at.After-is_narrow c).After-shared_slice_known-1)) ≡ true → finite (widened c.bits-gain.result) ≡ true
-finite-bits c e = ap (λ (n : ℕ). finite (widened n)) (bits_are (goal.at.After-is_narrow c).After-bits-gain) ∙ e
+finite-bits : (c : After-is_narrow) → finite (widened (old (goal.at.After-is_narrow c).After-shared_slice_known-1)) ≡ true → finite (widened (bits (goal.at.After-is_narrow c).After-shared_slice_known-1)) ≡ true
+finite-bits c e = ap (λ (n : ℕ). finite (widened n)) (needed (goal.at.After-is_narrow c).After-shared_slice_known-1).bits ∙ e
 
-pub bits-gain-requires : goal.bits-gain-requires
-bits-gain-requires c = (needed (goal.at.bits-gain-requires c).After-shared_slice_known-1).real
+pub float_to_bits-gain : goal.float_to_bits-gain
+float_to_bits-gain c = no_nan c.args.o.calibration.gain (needed (goal.at.float_to_bits-gain c).After-shared_slice_known-1).real
 
 pub is_narrow-requires : goal.is_narrow-requires
-is_narrow-requires c = gain-good (goal.at.is_narrow-requires c).After-bits-gain
+is_narrow-requires c = gain-good (goal.at.is_narrow-requires c).After-shared_slice_known-1
 
 pub returns-then-not-is_narrow : goal.returns-then-not-is_narrow
 returns-then-not-is_narrow c =
@@ -52,21 +55,6 @@ returns-then-not-is_narrow c =
       value = told.0;
       out_after = told.1;
     }
-
-pub overflow_cast-one : goal.overflow_cast-one
-overflow_cast-one c = omega (arith, (needed (goal.at.overflow_cast-one c).After-shared_slice_known-1).small)
-
-pub overflow_cast-two : goal.overflow_cast-two
-overflow_cast-two c = omega (arith, (needed (goal.at.overflow_cast-two c).After-shared_slice_known-1).small)
-
-pub overflow_add-total : goal.overflow_add-total
-overflow_add-total c = omega (arith, (needed (goal.at.overflow_add-total c).After-shared_slice_known-1).small)
-
-pub overflow_add-total-2 : goal.overflow_add-total-2
-overflow_add-total-2 c = omega (arith, (needed (goal.at.overflow_add-total-2 c).After-shared_slice_known-1).small)
-
-pub overflow_add-total-3 : goal.overflow_add-total-3
-overflow_add-total-3 c = omega (arith, (needed (goal.at.overflow_add-total-3 c).After-shared_slice_known-1).small)
 
 pub returns-then-out-total : goal.returns-then-out-total
 returns-then-out-total c =
@@ -80,7 +68,7 @@ returns-then-out-total c =
 pub times_256-gain-requires : goal.times_256-gain-requires
 times_256-gain-requires c =
     record {
-      gain_value = gain-good (goal.at.times_256-gain-requires c).After-bits-gain;
+      gain_value = gain-good (goal.at.times_256-gain-requires c).After-shared_slice_known-1;
       gain_value_2 = finite-bits (goal.at.times_256-gain-requires c).After-is_narrow (passes (test (goal.at.times_256-gain-requires c).After-is_narrow) c.if-not-is_narrow.false-raw);
     }
 
@@ -104,7 +92,7 @@ returns c =
     let out = c.args.out.now in
     let block : ℕ → List ℕ = word_block s o.start o.order (get_or o.layout.starts 6 0) (get_or o.layout.lengths 6 0 / 2) (get_or o.layout.lengths 7 0 / 2) in
     let told = narrows s out (says-narrow s (length out) (record { block = c.requires.1; gains = inr (passes (test (goal.at.returns c).After-is_narrow) c.if-not-is_narrow.false-raw); room = omega (arith, c.if-out-total.false, n.long) })) _ n.long _
-    (c.write_word.ensures ∙ ap (λ (g : ℕ). splice out 0 (block g)) (c.times_256-gain.ensures ∙ ap times256 (bits_are (goal.at.returns c).After-bits-gain)) ∙ ap (splice out 0) n.is) in record {
+    (c.write_word.ensures ∙ ap (λ (g : ℕ). splice out 0 (block g)) (c.times_256-gain.ensures ∙ ap times256 n.bits) ∙ ap (splice out 0) n.is) in record {
       value = told.0;
       out_after = told.1;
     }
