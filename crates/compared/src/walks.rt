@@ -6,7 +6,7 @@ ghost use Rattle.rules.specs.Points.{value, time, mark_number, walk_refusal};
 ghost use Rattle.points.specs.Walks.{place_of, step_at, moved_to, values_of, marks_of};
 ghost use Rattle.compared.specs.Tested.{copied, mark_byte, steps_number, values_left, times_left, marks_left};
 
-use points::{Place, Step};
+use points::Place;
 
 // The value, the time and the mark of each point that a walk hands out until it is done, at the start of values, of times and of marks.
 pub fn compared_steps(
@@ -54,16 +54,12 @@ pub fn compared_step(
     ensures mark_after { mark.new ≡ copied (map mark_number (marks_of (step_at block.now (moved_to k (place_of block.now array segment))))) mark.old }
 {
     match points::walked(block, array, segment, k) {
-        Step::Point {
-            value,
-            time,
-            mark: at_rail,
-        } => {
-            put_two(value, time, out);
-            put_mark(at_rail, mark);
+        Some(point) => {
+            put_two(point.value, point.time, out);
+            put_mark(point.mark, mark);
             2
         }
-        Step::Done => 0,
+        None => 0,
     }
 }
 
@@ -86,10 +82,10 @@ fn put_steps(
 {
     let mut place = first;
     let mut k = 0;
-    while let Step::Point { value, time, mark } = points::step_at(block, place) {
-        values[k] = value;
-        times[k] = time;
-        marks[k] = fills::mark_number(mark) as u8;
+    while let Some(point) = points::step_at(block, place) {
+        values[k] = point.value;
+        times[k] = point.time;
+        marks[k] = fills::mark_number(point.mark) as u8;
         place = points::after(place);
         k += 1;
     }

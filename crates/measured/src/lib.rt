@@ -10,7 +10,7 @@ ghost use Rattle.points.specs.Points.{filled_as, filled_out};
 ghost use Rattle.points.specs.Walks.{place_of};
 ghost use Rattle.measured.specs.Measured.{told_of};
 
-use points::{Place, Step};
+use points::Place;
 
 // All M values of a segment of an array, at the start of out, by the fill; the answer has the refusal's number in its high half, and in its
 // low half how many samples stand at the rail.
@@ -50,9 +50,9 @@ fn put_points(block: &[u8], array: u32, segment: u32, first: Place, out: &mut [f
     let mut place = first;
     let mut marks = 0;
     let mut k = 0;
-    while let Step::Point { value, mark, .. } = points::step_at(block, place) {
-        out[k] = value;
-        marks = marks + fills::mark_number(mark) as u32;
+    while let Some(point) = points::step_at(block, place) {
+        out[k] = point.value;
+        marks = marks + fills::mark_number(point.mark) as u32;
         place = points::after(place);
         k += 1;
     }

@@ -1,5 +1,6 @@
 -- A walk by the calls that make it: `start`, and then `next` as often as one likes. Each step has the number and the values of document 01, and the
 -- marks (`walk_answers`), and so have all steps of a run of `next` calls, in order, and done for good behind them (`run-answers`).
+use Rattle.std.specs.Prelude.{Option, Some, None}
 use mathlib.Core.Path.{◌≡◌, refl, sym, ap, ap₂, ◌∙◌}
 use mathlib.Core.Bool.{Bool, true, false}
 use mathlib.Core.List.{List, [], ◌∷◌, map}
@@ -17,9 +18,8 @@ use Rattle.rules.specs.Points.{value, time, mark, walk_refusal}
 use Rattle.points.specs.declared.answers.Point as answers
 use Rattle.points.specs.declared.walk.Place.{Place}
 use Rattle.points.specs.declared.walk.Walk.{Walk}
-use Rattle.points.specs.declared.walk.Step.{Step}
-use Rattle.points.specs.declared.walk.Step.TheVariants.{Point, Done}
-use Rattle.points.specs.Walks.{place_of, step_at, after_of, place_after, values_of, marks_of, answer_of, walk_by, walk_answer, Started, Stepped}
+use Rattle.points.specs.declared.walk.TimedPoint.{TimedPoint}
+use Rattle.points.specs.Walks.{place_of, step_at, after_of, place_after, timed, values_of, marks_of, answer_of, walk_by, walk_answer, Started, Stepped}
 use Rattle.points.proofs.Refusals.{walk_points}
 use Rattle.points.proofs.Bounds.{point_answer}
 use Rattle.points.proofs.Walking.{place-number, walk_steps, walk_ends, walk_refused}
@@ -32,44 +32,44 @@ module _ (s : List ℕ) (b : Bytes s) (a n : ℕ) where
   unfolding walk_answer
   walk_answers k = go (walk_refusal s a n) refl (ltb k (points (opened s).head)) refl
     where
-      numbered : (m : ℕ) → walk_refusal s a n ≡ m → (r : Step) → step_at s (place_after s a n k) ≡ r → answer_of (place_of s a n) (step_at s (place_after s a n k)) ≡ (m, values_of r, marks_of r)
+      numbered : (m : ℕ) → walk_refusal s a n ≡ m → (r : Option TimedPoint) → step_at s (place_after s a n k) ≡ r → answer_of (place_of s a n) (step_at s (place_after s a n k)) ≡ (m, values_of r, marks_of r)
       numbered m e r q = ap₂ {C = ℕ × List Float × List Bool} (λ x y. (x, values_of y, marks_of y)) (place-number s a n ∙ e) q
 
       go : (m : ℕ) → walk_refusal s a n ≡ m → (more : Bool) → ltb k (points (opened s).head) ≡ more
           → answer_of (place_of s a n) (step_at s (place_after s a n k)) ≡ walk_by (walk_refusal s a n) (ltb k (points (opened s).head)) (value (opened s) a n k) (time (opened s) n k) (mark (opened s) a n k)
       go zero e true f =
           let l : k < points (opened s).head = ltb-true k (points (opened s).head) f in
-          numbered 0 e (Point (value (opened s) a n k) (time (opened s) n k) (mark (opened s) a n k))
-          (walk_steps s a n e b k l ∙ ap (λ (p : answers.Point). Point p.value p.time p.mark) (point_answer s a n k (walk_points s a n e k l)))
+          numbered 0 e (Some (timed (value (opened s) a n k) (time (opened s) n k) (mark (opened s) a n k)))
+          (walk_steps s a n e b k l ∙ ap (λ (p : answers.Point). Some (timed p.value p.time p.mark)) (point_answer s a n k (walk_points s a n e k l)))
           ∙ sym (λ i. walk_by (e i) (f i) (value (opened s) a n k) (time (opened s) n k) (mark (opened s) a n k))
       go zero e false f =
-          numbered 0 e Done (walk_ends s a n e k (ltb-false k (points (opened s).head) f)).0
+          numbered 0 e None (walk_ends s a n e k (ltb-false k (points (opened s).head) f)).0
           ∙ sym (λ i. walk_by (e i) (f i) (value (opened s) a n k) (time (opened s) n k) (mark (opened s) a n k))
       go (suc m) e more f =
-          numbered (suc m) e Done (walk_refused s a n (λ z. omega arith) k).1 ∙ sym (λ i. walk_by (e i) (f i) (value (opened s) a n k) (time (opened s) n k) (mark (opened s) a n k))
+          numbered (suc m) e None (walk_refused s a n (λ z. omega arith) k).1 ∙ sym (λ i. walk_by (e i) (f i) (value (opened s) a n k) (time (opened s) n k) (mark (opened s) a n k))
 
 -- ---- a run of `next`
 
 -- from the walk w, `next` answered these steps one after another and left the walk u
-pub data Run : Walk → List Step → Walk → Type 0 where
+pub data Run : Walk → List (Option TimedPoint) → Walk → Type 0 where
   stop : {w : Walk} → Run w [] w
-  call : {w v u : Walk} {r : Step} {rs : List Step} → Stepped w r v → Run v rs u → Run w (r ∷ rs) u
+  call : {w v u : Walk} {r : Option TimedPoint} {rs : List (Option TimedPoint)} → Stepped w r v → Run v rs u → Run w (r ∷ rs) u
 
 module _ (block : Bor (List ℕ)) (b : Bytes block.now) (a n : ℕ) where
   -- a run from the walk after k steps
-  from_step : (k : ℕ) {w u : Walk} {rs : List Step} → w.block ≡ block → w.place ≡ place_after block.now a n k → Run w rs u
+  from_step : (k : ℕ) {w u : Walk} {rs : List (Option TimedPoint)} → w.block ≡ block → w.place ≡ place_after block.now a n k → Run w rs u
       → (map (answer_of (place_of block.now a n)) rs ≡ map (walk_answer block.now a n) (up_from k (length rs))) × (u.block ≡ block) × (u.place ≡ place_after block.now a n (length rs + k))
   unfolding up_from
   from_step k eb ep stop = let z : k ≡ 0 + k = omega arith in (refl, eb, ep ∙ ap (place_after block.now a n) z)
   from_step k eb ep (call {r = r} {rs = rs} s q) =
       let rest = from_step (suc k) (s.same_block ∙ eb) (s.moves ∙ ap after_of ep) q in
       let e : length rs + suc k ≡ suc (length rs) + k = omega arith in (
-        ap₂ {C = List (ℕ × List Float × List Bool)} (λ x xs. x ∷ xs) (ap (answer_of (place_of block.now a n)) (s.answers ∙ ap₂ {C = Step} (λ x p. step_at x.now p) eb ep) ∙ walk_answers block.now b a n k) rest.0,
+        ap₂ {C = List (ℕ × List Float × List Bool)} (λ x xs. x ∷ xs) (ap (answer_of (place_of block.now a n)) (s.answers ∙ ap₂ {C = Option TimedPoint} (λ x p. step_at x.now p) eb ep) ∙ walk_answers block.now b a n k) rest.0,
         rest.1,
         rest.2 ∙ ap (place_after block.now a n) e,
       )
 
-  pub run-answers : {w u : Walk} {rs : List Step} → Started block a n w → Run w rs u
+  pub run-answers : {w u : Walk} {rs : List (Option TimedPoint)} → Started block a n w → Run w rs u
       → (map (answer_of w.place) rs ≡ map (walk_answer block.now a n) (up_from 0 (length rs))) × (u.block ≡ block) × (u.place ≡ place_after block.now a n (length rs))
   run-answers {rs = rs} s r =
       let all = from_step 0 s.same_block s.at-start r in

@@ -17,7 +17,7 @@ use Rattle.fills.proofs.Writes.{over_none, map-one}
 use Rattle.points.specs.Walks.{after_of, place_after}
 use Rattle.measured.proofs.Walked.{all-written, points_are, handed, stopped}
 use Rattle.measured.proofs.put_points.Goals as goal
-use Rattle.measured.proofs.put_points.Goals.{After-mark_number, After-shared_slice_known-1, In-Point, Start}
+use Rattle.measured.proofs.put_points.Goals.{After-mark_number, After-shared_slice_known-1, In-Some, Start}
 
 -- every element of a slice is a byte
 bytes : (c : After-shared_slice_known-1) → Bytes c.args.block.now
@@ -28,76 +28,76 @@ room : (c : Start) → points (opened c.args.block.now).head ≤ length c.args.o
 room c = let a = c.args in omega (arith, points_are a.block.now a.array a.segment a.first c.requires.first_value c.requires.segment_value, c.requires.points_in_bounds)
 
 -- a step that hands out a point
-next : (c : In-Point) → let a = c.args in let l = c.loop-value in
+next : (c : In-Some) → let a = c.args in let l = c.loop-point in
     (l.k < points (opened a.block.now).head)
-    × (c.in-Point.value ≡ value (opened a.block.now) a.array a.segment l.k)
-    × (c.in-Point.mark ≡ mark (opened a.block.now) a.array a.segment l.k)
+    × (c.in-Some.point.value ≡ value (opened a.block.now) a.array a.segment l.k)
+    × (c.in-Some.point.mark ≡ mark (opened a.block.now) a.array a.segment l.k)
 next c =
     let a = c.args in
-    let l = c.loop-value in
+    let l = c.loop-point in
     let r = c.step_at in
-    let h = handed a.block.now a.array a.segment (bytes (goal.at.In-Point c).After-shared_slice_known-1) c.requires.segment_value l.k l.invariant.0 l.place l.invariant.1 r.result r.ensures _ _ _ c.in-Point.is in
+    let h = handed a.block.now a.array a.segment (bytes (goal.at.In-Some c).After-shared_slice_known-1) c.requires.segment_value l.k l.invariant.0 l.place l.invariant.1 r.result r.ensures _ c.in-Some.is in
     (h.0, h.1, h.3)
 
-within : (c : In-Point) → c.loop-value.k < length c.loop-value.out
-within c = omega (arith, (next c).0, room (goal.at.In-Point c).Start, c.loop-value.invariant.2)
+within : (c : In-Some) → c.loop-point.k < length c.loop-point.out
+within c = omega (arith, (next c).0, room (goal.at.In-Some c).Start, c.loop-point.invariant.2)
 
-pub loop-value-init : goal.loop-value-init
+pub loop-point-init : goal.loop-point-init
 unfolding up_from mark_count_of
-loop-value-init c = let a = c.args in (omega arith, c.requires.first_value, refl, over_none a.out.now 0, refl)
+loop-point-init c = let a = c.args in (omega arith, c.requires.first_value, refl, over_none a.out.now 0, refl)
 
 pub offset_bounds-out-k : goal.offset_bounds-out-k
-offset_bounds-out-k c = omega (arith, within (goal.at.offset_bounds-out-k c).In-Point)
+offset_bounds-out-k c = omega (arith, within (goal.at.offset_bounds-out-k c).In-Some)
 
 pub bounds-out-k : goal.bounds-out-k
-bounds-out-k c = within (goal.at.bounds-out-k c).In-Point
+bounds-out-k c = within (goal.at.bounds-out-k c).In-Some
 
 -- the mark of one point more
 one : (c : After-mark_number)
     → (let a = c.args in
     let w : Wave = opened a.block.now in
-    c.loop-value.marks + c.mark_number.result ≡ mark_count_of (size_of w.head) (map (sample w a.array a.segment) (up_from 0 (c.loop-value.k + 1))))
+    c.loop-point.marks + c.mark_number.result ≡ mark_count_of (size_of w.head) (map (sample w a.array a.segment) (up_from 0 (c.loop-point.k + 1))))
 unfolding mark
 one c =
     let a = c.args in
-    let l = c.loop-value in
+    let l = c.loop-point in
     let w : Wave = opened a.block.now in
     marks-one (size_of w.head) (sample w a.array a.segment) 0 l.k l.k l.marks c.mark_number.result (sample w a.array a.segment l.k) (omega arith) l.invariant.4 refl
-    (c.mark_number.ensures ∙ ap mark_number (next (goal.at.After-mark_number c).In-Point).2)
+    (c.mark_number.ensures ∙ ap mark_number (next (goal.at.After-mark_number c).In-Some).2)
 
 pub overflow_add-marks : goal.overflow_add-marks
 overflow_add-marks c =
     let a = c.args in
     let w : Wave = opened a.block.now in
-    let few = marks_few (size_of w.head) (sample w a.array a.segment) 0 (c.loop-value.k + 1) in
-    omega (arith, one (goal.at.overflow_add-marks c).After-mark_number, few, (next (goal.at.overflow_add-marks c).In-Point).0, points_are a.block.now a.array a.segment a.first c.requires.first_value c.requires.segment_value, c.well_formed)
+    let few = marks_few (size_of w.head) (sample w a.array a.segment) 0 (c.loop-point.k + 1) in
+    omega (arith, one (goal.at.overflow_add-marks c).After-mark_number, few, (next (goal.at.overflow_add-marks c).In-Some).0, points_are a.block.now a.array a.segment a.first c.requires.first_value c.requires.segment_value, c.well_formed)
 
 pub overflow_add-k : goal.overflow_add-k
-overflow_add-k c = omega (arith, within (goal.at.overflow_add-k c).In-Point)
+overflow_add-k c = omega (arith, within (goal.at.overflow_add-k c).In-Some)
 
-pub loop-value-smaller : goal.loop-value-smaller
-loop-value-smaller c = omega (arith, (next (goal.at.loop-value-smaller c).In-Point).0)
+pub loop-point-smaller : goal.loop-point-smaller
+loop-point-smaller c = omega (arith, (next (goal.at.loop-point-smaller c).In-Some).0)
 
-pub loop-value-preserved : goal.loop-value-preserved
-loop-value-preserved c =
-    let l = c.loop-value in
+pub loop-point-preserved : goal.loop-point-preserved
+loop-point-preserved c =
+    let l = c.loop-point in
     let a = c.args in
     let f : ℕ → Float = value (opened a.block.now) a.array a.segment in
-    let n = next (goal.at.loop-value-preserved c).In-Point in (
+    let n = next (goal.at.loop-point-preserved c).In-Some in (
       omega (arith, n.0),
       c.after-place.ensures ∙ ap after_of l.invariant.1 ∙ ap (place_after a.block.now a.array a.segment) (sym (add-one l.k)),
       simp length-set l.invariant.2,
-      map-one f a.out.now l.out 0 0 l.k l.k l.k c.in-Point.value n.1 (omega arith) (omega arith) (omega (arith, within (goal.at.loop-value-preserved c).In-Point, l.invariant.2)) l.invariant.3,
-      one (goal.at.loop-value-preserved c).After-mark_number,
+      map-one f a.out.now l.out 0 0 l.k l.k l.k c.in-Some.point.value n.1 (omega arith) (omega arith) (omega (arith, within (goal.at.loop-point-preserved c).In-Some, l.invariant.2)) l.invariant.3,
+      one (goal.at.loop-point-preserved c).After-mark_number,
     )
 
 pub shape_of-out : goal.shape_of-out
-shape_of-out c = c.loop-value.invariant.2
+shape_of-out c = c.loop-point.invariant.2
 
 pub returns : goal.returns
 unfolding mark_count
 returns c =
-    let l = c.loop-value in
+    let l = c.loop-point in
     let r = c.step_at in
     let a = c.args in
     let w : Wave = opened a.block.now in

@@ -11,13 +11,13 @@ use Rattle.fills.specs.Fills.{over}
 use Rattle.points.specs.Walks.{place_after}
 use Rattle.measured.proofs.put_points.Given as goal
 
-abbrev pub invariant-loop-value : goal.invariant-loop-value
-invariant-loop-value l =
+abbrev pub invariant-loop-point : goal.invariant-loop-point
+invariant-loop-point l =
     (l.k ≤ points (opened l.block).head)
     × (l.place ≡ place_after l.block l.array l.segment l.k)
     × (length l.out ≡ length l.initial.out)
     × (l.out ≡ over l.initial.out 0 (map (value (opened l.block) l.array l.segment) (up_from 0 l.k)))
     × (l.marks ≡ mark_count_of (size_of (opened l.block).head) (map (sample (opened l.block) l.array l.segment) (up_from 0 l.k)))
 
-abbrev pub decreases-loop-value : goal.decreases-loop-value
-decreases-loop-value l = points (opened l.block).head - l.k
+abbrev pub decreases-loop-point : goal.decreases-loop-point
+decreases-loop-point l = points (opened l.block).head - l.k

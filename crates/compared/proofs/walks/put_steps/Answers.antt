@@ -16,69 +16,69 @@ use Rattle.points.specs.Walks.{after_of, place_after}
 use Rattle.compared.specs.Tested.{mark_byte}
 use Rattle.measured.proofs.Walked.{all-written, points_are, handed, stopped}
 use Rattle.compared.proofs.walks.put_steps.Goals as goal
-use Rattle.compared.proofs.walks.put_steps.Goals.{After-shared_slice_known-1, In-Point}
+use Rattle.compared.proofs.walks.put_steps.Goals.{After-shared_slice_known-1, In-Some}
 
 -- every element of a slice is a byte
 bytes : (c : After-shared_slice_known-1) → Bytes c.args.block.now
 bytes c = below-index 256 c.args.block.now (λ i h. (c.type_inv.block i).fits)
 
 -- a step that hands out a point
-next : (c : In-Point) → let a = c.args in let l = c.loop-value in
+next : (c : In-Some) → let a = c.args in let l = c.loop-point in
     (l.k < points (opened a.block.now).head)
-    × (c.in-Point.value ≡ value (opened a.block.now) a.array a.segment l.k)
-    × (c.in-Point.time ≡ time (opened a.block.now) a.segment l.k)
-    × (c.in-Point.mark ≡ mark (opened a.block.now) a.array a.segment l.k)
+    × (c.in-Some.point.value ≡ value (opened a.block.now) a.array a.segment l.k)
+    × (c.in-Some.point.time ≡ time (opened a.block.now) a.segment l.k)
+    × (c.in-Some.point.mark ≡ mark (opened a.block.now) a.array a.segment l.k)
 next c =
     let a = c.args in
-    let l = c.loop-value in
+    let l = c.loop-point in
     let r = c.step_at in
-    handed a.block.now a.array a.segment (bytes (goal.at.In-Point c).After-shared_slice_known-1) c.requires.segment_value l.k l.invariant.0 l.place l.invariant.1 r.result r.ensures _ _ _ c.in-Point.is
+    handed a.block.now a.array a.segment (bytes (goal.at.In-Some c).After-shared_slice_known-1) c.requires.segment_value l.k l.invariant.0 l.place l.invariant.1 r.result r.ensures _ c.in-Some.is
 
-within : (c : In-Point) → (c.loop-value.k < length c.loop-value.values) × (c.loop-value.k < length c.loop-value.times) × (c.loop-value.k < length c.loop-value.marks)
+within : (c : In-Some) → (c.loop-point.k < length c.loop-point.values) × (c.loop-point.k < length c.loop-point.times) × (c.loop-point.k < length c.loop-point.marks)
 within c =
     let a = c.args in
-    let l = c.loop-value in
+    let l = c.loop-point in
     let q = c.requires.points_in_bounds in
     let m = points_are a.block.now a.array a.segment a.first c.requires.first_value c.requires.segment_value in
     (omega (arith, (next c).0, m, q.0, l.invariant.2), omega (arith, (next c).0, m, q.1, l.invariant.3), omega (arith, (next c).0, m, q.2, l.invariant.4))
 
-pub loop-value-init : goal.loop-value-init
+pub loop-point-init : goal.loop-point-init
 unfolding up_from
-loop-value-init c =
+loop-point-init c =
     let a = c.args in
     (omega arith, c.requires.first_value, refl, refl, refl, over_none a.values.now 0, over_none a.times.now 0, over_none a.marks.now 0)
 
 pub offset_bounds-values-k : goal.offset_bounds-values-k
-offset_bounds-values-k c = omega (arith, (within (goal.at.offset_bounds-values-k c).In-Point).0)
+offset_bounds-values-k c = omega (arith, (within (goal.at.offset_bounds-values-k c).In-Some).0)
 
 pub bounds-values-k : goal.bounds-values-k
-bounds-values-k c = (within (goal.at.bounds-values-k c).In-Point).0
+bounds-values-k c = (within (goal.at.bounds-values-k c).In-Some).0
 
 pub offset_bounds-times-k : goal.offset_bounds-times-k
-offset_bounds-times-k c = omega (arith, (within (goal.at.offset_bounds-times-k c).In-Point).1)
+offset_bounds-times-k c = omega (arith, (within (goal.at.offset_bounds-times-k c).In-Some).1)
 
 pub bounds-times-k : goal.bounds-times-k
-bounds-times-k c = (within (goal.at.bounds-times-k c).In-Point).1
+bounds-times-k c = (within (goal.at.bounds-times-k c).In-Some).1
 
 pub overflow_cast-marks : goal.overflow_cast-marks
-overflow_cast-marks c = omega (arith, c.mark_number.ensures, mark_le c.in-Point.mark)
+overflow_cast-marks c = omega (arith, c.mark_number.ensures, mark_le c.in-Some.point.mark)
 
 pub bounds-marks-k : goal.bounds-marks-k
-bounds-marks-k c = (within (goal.at.bounds-marks-k c).In-Point).2
+bounds-marks-k c = (within (goal.at.bounds-marks-k c).In-Some).2
 
 pub overflow_add-k : goal.overflow_add-k
-overflow_add-k c = omega (arith, (within (goal.at.overflow_add-k c).In-Point).0)
+overflow_add-k c = omega (arith, (within (goal.at.overflow_add-k c).In-Some).0)
 
-pub loop-value-smaller : goal.loop-value-smaller
-loop-value-smaller c = omega (arith, (next (goal.at.loop-value-smaller c).In-Point).0)
+pub loop-point-smaller : goal.loop-point-smaller
+loop-point-smaller c = omega (arith, (next (goal.at.loop-point-smaller c).In-Some).0)
 
-pub loop-value-preserved : goal.loop-value-preserved
-loop-value-preserved c =
-    let l = c.loop-value in
+pub loop-point-preserved : goal.loop-point-preserved
+loop-point-preserved c =
+    let l = c.loop-point in
     let a = c.args in
-    let n = next (goal.at.loop-value-preserved c).In-Point in
-    let w = within (goal.at.loop-value-preserved c).In-Point in
-    let v = c.in-Point in (
+    let n = next (goal.at.loop-point-preserved c).In-Some in
+    let w = within (goal.at.loop-point-preserved c).In-Some in
+    let v = c.in-Some.point in (
       omega (arith, n.0),
       c.after-place.ensures ∙ ap after_of l.invariant.1 ∙ ap (place_after a.block.now a.array a.segment) (sym (add-one l.k)),
       simp length-set l.invariant.2,
@@ -90,17 +90,17 @@ loop-value-preserved c =
     )
 
 pub shape_of-values : goal.shape_of-values
-shape_of-values c = c.loop-value.invariant.2
+shape_of-values c = c.loop-point.invariant.2
 
 pub shape_of-times : goal.shape_of-times
-shape_of-times c = c.loop-value.invariant.3
+shape_of-times c = c.loop-point.invariant.3
 
 pub shape_of-marks : goal.shape_of-marks
-shape_of-marks c = c.loop-value.invariant.4
+shape_of-marks c = c.loop-point.invariant.4
 
 pub returns : goal.returns
 returns c =
-    let l = c.loop-value in
+    let l = c.loop-point in
     let r = c.step_at in
     let a = c.args in
     let w : Wave = opened a.block.now in

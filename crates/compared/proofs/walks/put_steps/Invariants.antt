@@ -12,8 +12,8 @@ use Rattle.points.specs.Walks.{place_after}
 use Rattle.compared.specs.Tested.{mark_byte}
 use Rattle.compared.proofs.walks.put_steps.Given as goal
 
-abbrev pub invariant-loop-value : goal.invariant-loop-value
-invariant-loop-value l =
+abbrev pub invariant-loop-point : goal.invariant-loop-point
+invariant-loop-point l =
     (l.k ≤ points (opened l.block).head)
     × (l.place ≡ place_after l.block l.array l.segment l.k)
     × (length l.values ≡ length l.initial.values)
@@ -23,5 +23,5 @@ invariant-loop-value l =
     × (l.times ≡ over l.initial.times 0 (map (time (opened l.block) l.segment) (up_from 0 l.k)))
     × (l.marks ≡ over l.initial.marks 0 (map (mark_byte (opened l.block) l.array l.segment) (up_from 0 l.k)))
 
-abbrev pub decreases-loop-value : goal.decreases-loop-value
-decreases-loop-value l = points (opened l.block).head - l.k
+abbrev pub decreases-loop-point : goal.decreases-loop-point
+decreases-loop-point l = points (opened l.block).head - l.k
