@@ -1,15 +1,16 @@
 -- A walk by the calls that make it: `start`, and then `next` as often as one likes. Each step has the number and the values of document 01, and the
 -- marks (`walk_answers`), and so have all steps of a run of `next` calls, in order, and done for good behind them (`run-answers`).
+use Rattle.std.specs.Iterator.{MakesProgress, at_most}
 use Rattle.std.specs.Prelude.{Option, Some, None}
 use mathlib.Core.Path.{◌≡◌, refl, sym, ap, ap₂, ◌∙◌}
-use mathlib.Core.Bool.{Bool, true, false}
+use mathlib.Core.Bool.{Bool, true, false, cond}
 use mathlib.Core.List.{List, [], ◌∷◌, map}
-use Prim.Native.Nat.{ℕ, zero, suc, ◌+◌, ◌<◌}
+use Prim.Native.Nat.{ℕ, zero, suc, ◌+◌, ◌-◌, ◌<◌}
 use native.Mathlib.Omega.{arith}
 use lib.ListN.{length}
 use lib.Dec.{ltb}
 use lib.Ieee.{Float}
-use borrow.Author.Tests.{ltb-true, ltb-false}
+use borrow.Author.Tests.{ltb-true, ltb-false, lt-ltb}
 use denote.Ref.{Bor}
 use Rattle.rules.specs.Numbers.{Bytes, up_from}
 use Rattle.rules.specs.Wave.{points}
@@ -19,10 +20,10 @@ use Rattle.points.specs.declared.answers.Point as answers
 use Rattle.points.specs.declared.walk.Place.{Place}
 use Rattle.points.specs.declared.walk.Walk.{Walk}
 use Rattle.points.specs.declared.walk.TimedPoint.{TimedPoint}
-use Rattle.points.specs.Walks.{place_of, step_at, after_of, place_after, timed, values_of, marks_of, answer_of, walk_by, walk_answer, Started, Stepped}
+use Rattle.points.specs.Walks.{place_of, step_at, moved_to, after_of, place_after, timed, values_of, marks_of, answer_of, walk_by, walk_answer, Started, Stepped}
 use Rattle.points.proofs.Refusals.{walk_points}
 use Rattle.points.proofs.Bounds.{point_answer}
-use Rattle.points.proofs.Walking.{place-number, walk_steps, walk_ends, walk_refused}
+use Rattle.points.proofs.Walking.{step_past, place-number, walk_steps, walk_ends, walk_refused}
 
 -- ---- one step
 
@@ -47,6 +48,25 @@ module _ (s : List ℕ) (b : Bytes s) (a n : ℕ) where
           ∙ sym (λ i. walk_by (e i) (f i) (value (opened s) a n k) (time (opened s) n k) (mark (opened s) a n k))
       go (suc m) e more f =
           numbered (suc m) e None (walk_refused s a n (λ z. omega arith) k).1 ∙ sym (λ i. walk_by (e i) (f i) (value (opened s) a n k) (time (opened s) n k) (mark (opened s) a n k))
+
+-- a walk that hands out a point has fewer before it
+pub fewer : {can : Walk → Type 0} → ((w : Walk) → can w) → (w v : Walk) (r : Option TimedPoint) → Stepped w r v → MakesProgress can (λ (u : Walk). at_most (u.place.points - u.place.k)) w r v
+fewer may w v None s = record { on = λ _. tt; keeps = tt; rests = λ _. tt }
+fewer may w v (Some x) s =
+    let p : Place = w.place in
+    let one : v.place ≡ moved_to (p.k + 1) p = s.moves ∙ ap (λ (t : Bool). cond t (moved_to (p.k + 1) p) p) (lt-ltb p.k p.points (below (ltb p.k p.points) refl)) in
+    record {
+      on = λ _. (may v, tt, omega (arith, below (ltb p.k p.points) refl, ap (λ (q : Place). q.k) one, ap (λ (q : Place). q.points) one));
+      keeps = may v;
+      rests = λ _. tt;
+    }
+  where
+    below : (t : Bool) → ltb w.place.k w.place.points ≡ t → w.place.k < w.place.points
+    below true f = ltb-true w.place.k w.place.points f
+    below false f = let none : Some x ≡ None = s.answers ∙ step_past w.block.now w.place (ltb-false w.place.k w.place.points f) in absurd (differ none)
+      where
+        differ : Some x ≡ None → ⊥
+        differ e = let z : ◌≡◌ {A = ℕ} 0 1 = cc in omega arith
 
 -- ---- a run of `next`
 
