@@ -26,13 +26,8 @@ pub fn compared_steps(
     if place.refusal != 0 {
         return place.refusal;
     }
-    if values.len() < place.points as usize {
-        return 13;
-    }
-    if times.len() < place.points as usize {
-        return 13;
-    }
-    if marks.len() < place.points as usize {
+    let room = values.len().min(times.len()).min(marks.len());
+    if room < place.points as usize {
         return 13;
     }
     put_steps(block, array, segment, place, values, times, marks);
@@ -85,7 +80,7 @@ fn put_steps(
     while let Some(point) = points::step_at(block, place) {
         values[k] = point.value;
         times[k] = point.time;
-        marks[k] = fills::mark_number(point.mark) as u8;
+        marks[k] = u8::from(point.mark);
         place = points::after(place);
         k += 1;
     }
@@ -95,19 +90,16 @@ fn put_steps(
 fn put_two(a: f64, b: f64, out: &mut [f64])
     ensures { out.new ≡ copied (a ∷ b ∷ []) out.old }
 {
-    if out.len() < 2 {
-        return;
+    if let Some(start) = out.first_chunk_mut() {
+        *start = [a, b];
     }
-    out[0] = a;
-    out[1] = b;
 }
 
 // A mark at the start of out, where it has room for it.
 fn put_mark(mark: bool, out: &mut [u8])
     ensures { out.new ≡ copied (mark_number mark ∷ []) out.old }
 {
-    if out.len() < 1 {
-        return;
+    if let Some(first) = out.first_mut() {
+        *first = u8::from(mark);
     }
-    out[0] = fills::mark_number(mark) as u8;
 }

@@ -52,7 +52,7 @@ fn put_points(block: &[u8], array: u32, segment: u32, first: Place, out: &mut [f
     let mut k = 0;
     while let Some(point) = points::step_at(block, place) {
         out[k] = point.value;
-        marks = marks + fills::mark_number(point.mark) as u32;
+        marks += u32::from(point.mark);
         place = points::after(place);
         k += 1;
     }
@@ -63,5 +63,5 @@ fn put_points(block: &[u8], array: u32, segment: u32, first: Place, out: &mut [f
 fn told(refusal: u32, marks: u32) -> u64
     ensures { result ≡ refusal * 4294967296 + marks }
 {
-    refusal as u64 * 4294967296 + marks as u64
+    u64::from(refusal) << 32 | u64::from(marks)
 }

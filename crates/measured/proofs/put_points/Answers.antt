@@ -15,9 +15,9 @@ use Rattle.rules.proofs.Marks.{marks_few}
 use Rattle.fills.proofs.Marking.{marks-one}
 use Rattle.fills.proofs.Writes.{over_none, map-one}
 use Rattle.points.specs.Walks.{after_of, place_after}
-use Rattle.measured.proofs.Walked.{all-written, points_are, handed, stopped}
+use Rattle.measured.proofs.Walked.{mark-from, all-written, points_are, handed, stopped}
 use Rattle.measured.proofs.put_points.Goals as goal
-use Rattle.measured.proofs.put_points.Goals.{After-mark_number, After-shared_slice_known-1, In-Some, Start}
+use Rattle.measured.proofs.put_points.Goals.{After-from-marks, After-shared_slice_known-1, In-Some, Start}
 
 -- every element of a slice is a byte
 bytes : (c : After-shared_slice_known-1) → Bytes c.args.block.now
@@ -53,24 +53,24 @@ pub bounds-out-k : goal.bounds-out-k
 bounds-out-k c = within (goal.at.bounds-out-k c).In-Some
 
 -- the mark of one point more
-one : (c : After-mark_number)
+one : (c : After-from-marks)
     → (let a = c.args in
     let w : Wave = opened a.block.now in
-    c.loop-point.marks + c.mark_number.result ≡ mark_count_of (size_of w.head) (map (sample w a.array a.segment) (up_from 0 (c.loop-point.k + 1))))
+    c.loop-point.marks + c.from-marks.result ≡ mark_count_of (size_of w.head) (map (sample w a.array a.segment) (up_from 0 (c.loop-point.k + 1))))
 unfolding mark
 one c =
     let a = c.args in
     let l = c.loop-point in
     let w : Wave = opened a.block.now in
-    marks-one (size_of w.head) (sample w a.array a.segment) 0 l.k l.k l.marks c.mark_number.result (sample w a.array a.segment l.k) (omega arith) l.invariant.4 refl
-    (c.mark_number.ensures ∙ ap mark_number (next (goal.at.After-mark_number c).In-Some).2)
+    marks-one (size_of w.head) (sample w a.array a.segment) 0 l.k l.k l.marks c.from-marks.result (sample w a.array a.segment l.k) (omega arith) l.invariant.4 refl
+    (c.from-marks.ensures ∙ mark-from c.in-Some.point.mark ∙ ap mark_number (next (goal.at.After-from-marks c).In-Some).2)
 
 pub overflow_add-marks : goal.overflow_add-marks
 overflow_add-marks c =
     let a = c.args in
     let w : Wave = opened a.block.now in
     let few = marks_few (size_of w.head) (sample w a.array a.segment) 0 (c.loop-point.k + 1) in
-    omega (arith, one (goal.at.overflow_add-marks c).After-mark_number, few, (next (goal.at.overflow_add-marks c).In-Some).0, points_are a.block.now a.array a.segment a.first c.requires.first_value c.requires.segment_value, c.well_formed)
+    omega (arith, one (goal.at.overflow_add-marks c).After-from-marks, few, (next (goal.at.overflow_add-marks c).In-Some).0, points_are a.block.now a.array a.segment a.first c.requires.first_value c.requires.segment_value, c.well_formed)
 
 pub overflow_add-k : goal.overflow_add-k
 overflow_add-k c = omega (arith, within (goal.at.overflow_add-k c).In-Some)
@@ -88,7 +88,7 @@ loop-point-preserved c =
       c.after-place.ensures ∙ ap after_of l.invariant.1 ∙ ap (place_after a.block.now a.array a.segment) (sym (add-one l.k)),
       simp length-set l.invariant.2,
       map-one f a.out.now l.out 0 0 l.k l.k l.k c.in-Some.point.value n.1 (omega arith) (omega arith) (omega (arith, within (goal.at.loop-point-preserved c).In-Some, l.invariant.2)) l.invariant.3,
-      one (goal.at.loop-point-preserved c).After-mark_number,
+      one (goal.at.loop-point-preserved c).After-from-marks,
     )
 
 pub shape_of-out : goal.shape_of-out

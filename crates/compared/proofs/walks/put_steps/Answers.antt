@@ -10,11 +10,10 @@ use Rattle.rules.specs.Wave.{Wave, points}
 use Rattle.rules.specs.Rules.{opened}
 use Rattle.rules.specs.Points.{value, time, mark, mark_number}
 use Rattle.rules.proofs.Numbers.{below-index}
-use Rattle.rules.proofs.Marks.{mark_le}
 use Rattle.fills.proofs.Writes.{over_none, map-one}
 use Rattle.points.specs.Walks.{after_of, place_after}
 use Rattle.compared.specs.Tested.{mark_byte}
-use Rattle.measured.proofs.Walked.{all-written, points_are, handed, stopped}
+use Rattle.measured.proofs.Walked.{mark-from, all-written, points_are, handed, stopped}
 use Rattle.compared.proofs.walks.put_steps.Goals as goal
 use Rattle.compared.proofs.walks.put_steps.Goals.{After-shared_slice_known-1, In-Some}
 
@@ -60,9 +59,6 @@ offset_bounds-times-k c = omega (arith, (within (goal.at.offset_bounds-times-k c
 pub bounds-times-k : goal.bounds-times-k
 bounds-times-k c = (within (goal.at.bounds-times-k c).In-Some).1
 
-pub overflow_cast-marks : goal.overflow_cast-marks
-overflow_cast-marks c = omega (arith, c.mark_number.ensures, mark_le c.in-Some.point.mark)
-
 pub bounds-marks-k : goal.bounds-marks-k
 bounds-marks-k c = (within (goal.at.bounds-marks-k c).In-Some).2
 
@@ -86,7 +82,7 @@ loop-point-preserved c =
       simp length-set l.invariant.4,
       map-one (value (opened a.block.now) a.array a.segment) a.values.now l.values 0 0 l.k l.k l.k v.value n.1 (omega arith) (omega arith) (omega (arith, w.0, l.invariant.2)) l.invariant.5,
       map-one (time (opened a.block.now) a.segment) a.times.now l.times 0 0 l.k l.k l.k v.time n.2 (omega arith) (omega arith) (omega (arith, w.1, l.invariant.3)) l.invariant.6,
-      map-one (mark_byte (opened a.block.now) a.array a.segment) a.marks.now l.marks 0 0 l.k l.k l.k _ (c.mark_number.ensures ∙ ap mark_number n.3) (omega arith) (omega arith) (omega (arith, w.2, l.invariant.4)) l.invariant.7,
+      map-one (mark_byte (opened a.block.now) a.array a.segment) a.marks.now l.marks 0 0 l.k l.k l.k _ (c.from.ensures ∙ mark-from v.mark ∙ ap mark_number n.3) (omega arith) (omega arith) (omega (arith, w.2, l.invariant.4)) l.invariant.7,
     )
 
 pub shape_of-values : goal.shape_of-values
