@@ -1,8 +1,7 @@
 -- A fill by the walk: its number is the walk's, then 13 (`number-refused`, `number_short`, `number_none`); a step hands out the next value (`handed`) until all are out (`stopped`).
-use Rattle.std.specs.Int.{from_bool}
 use Rattle.std.specs.Prelude.{Option, Some, None}
 use mathlib.Core.Path.{◌≡◌, refl, sym, ap, ◌∙◌}
-use mathlib.Core.Bool.{Bool, true, false, cond}
+use mathlib.Core.Bool.{Bool, cond}
 use mathlib.Core.List.{List, ◌++◌, map}
 use mathlib.Core.Logic.{⊎_elim}
 use Prim.Native.Nat.{ℕ, zero, suc, ◌≤◌, ◌<◌}
@@ -15,7 +14,7 @@ use borrow.Author.Tests.{le-leb, lt-leb}
 use Rattle.rules.specs.Numbers.{Bytes, up_from}
 use Rattle.rules.specs.Wave.{points}
 use Rattle.rules.specs.Rules.{rules, opened}
-use Rattle.rules.specs.Points.{value, time, mark, mark_number, segment_rules, walk_refusal, fill_refusal}
+use Rattle.rules.specs.Points.{value, time, mark, segment_rules, walk_refusal, fill_refusal}
 use Rattle.rules.specs.Cut.{or_else}
 use Rattle.rules.proofs.Tests.{first_last}
 use Rattle.rules.proofs.Opened.{rules_numbered}
@@ -28,11 +27,6 @@ use Rattle.points.specs.Walks.{timed, place_of, step_at, place_after}
 use Rattle.points.proofs.Refusals.{walk_points}
 use Rattle.points.proofs.Bounds.{point_answer}
 use Rattle.points.proofs.Walking.{place-number, begins, walk_steps, walk_ends}
-
--- a mark as a number is the mark's number
-pub mark-from : (m : Bool) → from_bool m ≡ mark_number m
-mark-from true = refl
-mark-from false = refl
 
 -- where as many are written as there are points, all are
 pub all-written : {A : Type 0} (f : ℕ → A) (old out : List A) (k m : ℕ) → k ≡ m → out ≡ over old 0 (map f (up_from 0 k)) → out ≡ map f (up_from 0 m) ++ drop m old

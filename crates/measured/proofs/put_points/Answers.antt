@@ -15,7 +15,8 @@ use Rattle.rules.proofs.Marks.{marks_few}
 use Rattle.fills.proofs.Marking.{marks-one}
 use Rattle.fills.proofs.Writes.{over_none, map-one}
 use Rattle.points.specs.Walks.{after_of, place_after}
-use Rattle.measured.proofs.Walked.{mark-from, all-written, points_are, handed, stopped}
+use Rattle.points.proofs.Values.{mark-from}
+use Rattle.measured.proofs.Walked.{all-written, points_are, handed, stopped}
 use Rattle.measured.proofs.put_points.Goals as goal
 use Rattle.measured.proofs.put_points.Goals.{After-from-marks, After-shared_slice_known-1, In-Some, Start}
 

@@ -13,7 +13,8 @@ use Rattle.rules.proofs.Numbers.{below-index}
 use Rattle.fills.proofs.Writes.{over_none, map-one}
 use Rattle.points.specs.Walks.{after_of, place_after}
 use Rattle.compared.specs.Tested.{mark_byte}
-use Rattle.measured.proofs.Walked.{mark-from, all-written, points_are, handed, stopped}
+use Rattle.points.proofs.Values.{mark-from}
+use Rattle.measured.proofs.Walked.{all-written, points_are, handed, stopped}
 use Rattle.compared.proofs.walks.put_steps.Goals as goal
 use Rattle.compared.proofs.walks.put_steps.Goals.{After-shared_slice_known-1, In-Some}
 
