@@ -13,6 +13,7 @@ ghost use Rattle.listing.specs.Outputs.{Next, Printed};
 
 use std::io;
 
+// Not an io::Result, since `Read` counts what was read where a call fails, too.
 // What was read: so many bytes at the buffer's start, and how many of them the last call of read moved, `None` where it
 // failed.
 #[derive(Clone, Copy)]

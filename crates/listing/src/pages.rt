@@ -116,10 +116,7 @@ fn after_line(block: &[u8], spot: Spot) -> Spot
 {
     let place = points::after(spot.place);
     if place.k < place.points {
-        return Spot {
-            segment: spot.segment,
-            place,
-        };
+        return Spot { place, ..spot };
     }
     spot_at(block, spot.segment + 1)
 }
