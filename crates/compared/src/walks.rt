@@ -6,7 +6,7 @@ ghost use Rattle.rules.specs.Points.{value, time, mark_number, walk_refusal};
 ghost use Rattle.points.specs.Walks.{place_of, step_at, moved_to, values_of, marks_of};
 ghost use Rattle.compared.specs.Tested.{copied, mark_byte, steps_number, values_left, times_left, marks_left};
 
-use points::Place;
+use points::{Place, Walk};
 
 // The value, the time and the mark of each point that a walk hands out until it is done, at the start of values, of times and of marks.
 pub fn compared_steps(
@@ -75,14 +75,14 @@ fn put_steps(
     ensures times_after { times.new ≡ map (time (opened block.now) segment) (up_from 0 first.points) ++ drop first.points times.old }
     ensures marks_after { marks.new ≡ map (mark_byte (opened block.now) array segment) (up_from 0 first.points) ++ drop first.points marks.old }
 {
-    let mut place = first;
-    let mut k = 0;
-    while let Some(point) = points::step_at(block, place) {
+    let walk = Walk {
+        block,
+        place: first,
+    };
+    for (k, point) in walk.enumerate() {
         values[k] = point.value;
         times[k] = point.time;
         marks[k] = u8::from(point.mark);
-        place = points::after(place);
-        k += 1;
     }
 }
 
