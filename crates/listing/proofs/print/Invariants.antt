@@ -1,5 +1,5 @@
 -- What is left at the spot is what was not handed on; each page leaves less.
-use Rattle.std.proofs.Common.{◌≤◌, length, take}
+use Rattle.std.proofs.Common.{length, take}
 use Rattle.std.specs.Io.KnownBytes.{Appends}
 use Rattle.listing.specs.Listing.{listing}
 use Rattle.listing.specs.Pages.{rest}
