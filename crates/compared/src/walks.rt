@@ -6,7 +6,7 @@ ghost use Rattle.rules.specs.Points.{value, time, mark_number, walk_refusal};
 ghost use Rattle.points.specs.Walks.{place_of, step_at, moved_to, values_of, marks_of};
 ghost use Rattle.compared.specs.Tested.{copied, mark_byte, steps_number, values_left, times_left, marks_left};
 
-use points::{Place, Step};
+use points::{Place, Walk};
 
 // The value, the time and the mark of each point that a walk hands out until it is done, at the start of values, of times and of marks.
 pub fn compared_steps(
@@ -26,13 +26,8 @@ pub fn compared_steps(
     if place.refusal != 0 {
         return place.refusal;
     }
-    if values.len() < place.points as usize {
-        return 13;
-    }
-    if times.len() < place.points as usize {
-        return 13;
-    }
-    if marks.len() < place.points as usize {
+    let room = values.len().min(times.len()).min(marks.len());
+    if room < place.points as usize {
         return 13;
     }
     put_steps(block, array, segment, place, values, times, marks);
@@ -54,16 +49,12 @@ pub fn compared_step(
     ensures mark_after { mark.new ≡ copied (map mark_number (marks_of (step_at block.now (moved_to k (place_of block.now array segment))))) mark.old }
 {
     match points::walked(block, array, segment, k) {
-        Step::Point {
-            value,
-            time,
-            mark: at_rail,
-        } => {
-            put_two(value, time, out);
-            put_mark(at_rail, mark);
+        Some(point) => {
+            put_two(point.value, point.time, out);
+            put_mark(point.mark, mark);
             2
         }
-        Step::Done => 0,
+        None => 0,
     }
 }
 
@@ -84,14 +75,14 @@ fn put_steps(
     ensures times_after { times.new ≡ map (time (opened block.now) segment) (up_from 0 first.points) ++ drop first.points times.old }
     ensures marks_after { marks.new ≡ map (mark_byte (opened block.now) array segment) (up_from 0 first.points) ++ drop first.points marks.old }
 {
-    let mut place = first;
-    let mut k = 0;
-    while let Step::Point { value, time, mark } = points::step_at(block, place) {
-        values[k] = value;
-        times[k] = time;
-        marks[k] = fills::mark_number(mark) as u8;
-        place = points::after(place);
-        k += 1;
+    let walk = Walk {
+        block,
+        place: first,
+    };
+    for (k, point) in walk.enumerate() {
+        values[k] = point.value;
+        times[k] = point.time;
+        marks[k] = u8::from(point.mark);
     }
 }
 
@@ -99,19 +90,16 @@ fn put_steps(
 fn put_two(a: f64, b: f64, out: &mut [f64])
     ensures { out.new ≡ copied (a ∷ b ∷ []) out.old }
 {
-    if out.len() < 2 {
-        return;
+    if let Some(start) = out.first_chunk_mut() {
+        *start = [a, b];
     }
-    out[0] = a;
-    out[1] = b;
 }
 
 // A mark at the start of out, where it has room for it.
 fn put_mark(mark: bool, out: &mut [u8])
     ensures { out.new ≡ copied (mark_number mark ∷ []) out.old }
 {
-    if out.len() < 1 {
-        return;
+    if let Some(first) = out.first_mut() {
+        *first = u8::from(mark);
     }
-    out[0] = fills::mark_number(mark) as u8;
 }

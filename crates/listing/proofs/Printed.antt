@@ -1,13 +1,12 @@
 -- What is handed on is what comes next in the listing (`first_next`, `page_next`), at the end all of it (`all-sent`): the calls of `write_next`, one behind the other, are handed the listing (`printed`).
 use mathlib.Core.Path.{◌≡◌, refl, sym, ap, ap₂, ◌∙◌, subst}
-use mathlib.Core.Bool.{Bool, true, false}
+use mathlib.Core.Bool.{true, true≢false}
 use mathlib.Core.List.{List, [], ◌++◌, append_assoc}
 use Prim.Native.Nat.{ℕ, zero, suc, ◌+◌, ◌*◌, ◌≤◌}
 use native.Mathlib.Omega.{arith}
 use lib.ListN.{length, take, drop, length-append, length-drop}
 use lib.Seq.{take-append_seam, drop-append_seam, drop-drop, take-add, take-length}
-use Rattle.std.specs.Prelude.{Option, None, Some}
-use Rattle.std.specs.Bool.{OnTrue}
+use Rattle.std.specs.Prelude.{Option, None, Some, Result, Ok, Err, is_ok, IsErr}
 use Rattle.std.specs.Io.KnownBytes.{Appends}
 use Rattle.rules.specs.Numbers.{Bytes}
 use Rattle.rules.specs.Rules.{opened}
@@ -85,6 +84,11 @@ all-sent s spot sent b h = go spot.place.refusal h b.left
     go zero h e = absurd (h refl)
     go (suc n) h e = omega (arith, b.within, ap length e, length-drop sent (listing s))
 
+-- where a write failed, less may have been taken
+pub stopped : {A E : Type 0} (s : List ℕ) (spot : Spot) (sent : ℕ) (r : Result A E) → Before s spot sent → IsErr r → Printed s sent (is_ok r)
+stopped s spot sent (Ok x) b e = absurd (true≢false (sym e))
+stopped s spot sent (Err x) b e = record { some = b.some; within = b.within; all = λ t. absurd (true≢false (sym t)) }
+
 -- the bytes of calls of `write_next`, one behind the other, and how many they are
 pub data Handed (s : List ℕ) : ℕ → List ℕ → Type 0 where
   none : Handed s 0 []
@@ -111,18 +115,13 @@ next_taken : (s bs : List ℕ) (sent now : ℕ) → Next s sent bs → now ≡ s
 next_taken s bs sent now n e = ap (λ (m : ℕ). take m (listing s)) e ∙ take-add sent (length bs) (listing s) ∙ ap (λ (x : List ℕ). take sent (listing s) ++ x) (sym n)
 
 -- the first bytes are the listing's first
-pub first_taken : (s bs : List ℕ) (sent now : ℕ) (r : Bool) (a b : Option (List ℕ)) → sent ≡ 0 → Next s sent bs → now ≡ sent + length bs → OnTrue r (Appends a b bs) → OnTrue r (Appends a b (take now (listing s)))
-first_taken s bs sent now r a b z n e p =
-    subst (λ (x : List ℕ). OnTrue r (Appends a b x)) (sym (next_taken s bs sent now n e ∙ ap (λ (m : ℕ). take m (listing s) ++ bs) z)) p
+pub first_taken : (s bs : List ℕ) (sent now : ℕ) (a b : Option (List ℕ)) → sent ≡ 0 → Next s sent bs → now ≡ sent + length bs → Appends a b bs → Appends a b (take now (listing s))
+first_taken s bs sent now a b z n e p = subst (Appends a b) (sym (next_taken s bs sent now n e ∙ ap (λ (m : ℕ). take m (listing s) ++ bs) z)) p
 
 -- and those of a later call come behind them
-pub more_taken : (s bs : List ℕ) (sent now : ℕ) (t r : Bool) (a b c : Option (List ℕ)) → Next s sent bs → now ≡ sent + length bs → t ≡ true → OnTrue t (Appends a b (take sent (listing s))) → OnTrue r (Appends b c bs)
-    → OnTrue r (Appends a c (take now (listing s)))
-more_taken s bs sent now t true a b c n e i p q =
-    let before : Appends a b (take sent (listing s)) = subst (λ (u : Bool). OnTrue u (Appends a b (take sent (listing s)))) i p in
-    subst (Appends a c) (sym (next_taken s bs sent now n e)) (appends_both a b c (take sent (listing s)) bs before q)
-more_taken s bs sent now t false a b c n e i p q = tt
+pub more_taken : (s bs : List ℕ) (sent now : ℕ) (a b c : Option (List ℕ)) → Next s sent bs → now ≡ sent + length bs → Appends a b (take sent (listing s)) → Appends b c bs → Appends a c (take now (listing s))
+more_taken s bs sent now a b c n e p q = subst (Appends a c) (sym (next_taken s bs sent now n e)) (appends_both a b c (take sent (listing s)) bs p q)
 
 -- at the end all of it
-pub all-taken : (s : List ℕ) (sent : ℕ) (r : Bool) (a b : Option (List ℕ)) → sent ≡ length (listing s) → OnTrue r (Appends a b (take sent (listing s))) → OnTrue r (Appends a b (listing s))
-all-taken s sent r a b e p = subst (λ (x : List ℕ). OnTrue r (Appends a b x)) (ap (λ (n : ℕ). take n (listing s)) e ∙ take-length (listing s)) p
+pub all-taken : (s : List ℕ) (sent : ℕ) (a b : Option (List ℕ)) → sent ≡ length (listing s) → Appends a b (take sent (listing s)) → Appends a b (listing s)
+all-taken s sent a b e p = subst (Appends a b) (ap (λ (n : ℕ). take n (listing s)) e ∙ take-length (listing s)) p

@@ -1,4 +1,5 @@
 -- What is left of a listing at a spot: the line of its point, and what is left at the next spot (`goes_on`, `goes_over`); behind the first line, all (`whole_long`, `whole_short`).
+use Rattle.std.specs.Prelude.{Option, Some, None}
 use mathlib.Core.Path.{◌≡◌, refl, sym, ap, ap₂, ◌∙◌, subst}
 use mathlib.Core.Bool.{Bool, true, false, cond, not}
 use mathlib.Core.Logic.{inl}
@@ -22,9 +23,8 @@ use Rattle.block.specs.declared.Opened.{Opened}
 use Rattle.block.specs.Opened.{opened_as}
 use Rattle.block.proofs.Answers.{number_is, accepted_as_lem}
 use Rattle.points.specs.declared.walk.Place.{Place}
-use Rattle.points.specs.declared.walk.Step.{Step}
-use Rattle.points.specs.declared.walk.Step.TheVariants.{Point, Done}
-use Rattle.points.specs.Walks.{accepted_place, place_of, moved_to, after_of, step_at}
+use Rattle.points.specs.declared.walk.TimedPoint.{TimedPoint}
+use Rattle.points.specs.Walks.{timed, accepted_place, place_of, moved_to, after_of, step_at}
 use Rattle.points.proofs.Refusals.{walk_points, walk_none, walk_accepts}
 use Rattle.points.proofs.Walking.{step_point, place-number, begins}
 use Rattle.digits.specs.Digits.{decimal, hex}
@@ -127,27 +127,27 @@ clean L (fin s m e) h = tt
 
 -- ---- what a step hands out
 
-differ : (r : Step) (v t : Float) (m : Bool) → r ≡ Point v t m → r ≡ Done → ⊥
-differ r v t m p q = let z : ◌≡◌ {A = ℕ} 0 1 = cc in omega arith
+differ : (r : Option TimedPoint) (p : TimedPoint) → r ≡ Some p → r ≡ None → ⊥
+differ r p x y = let z : ◌≡◌ {A = ℕ} 0 1 = cc in omega arith
 
-alike : (r : Step) (x y v t : Float) (b m : Bool) → r ≡ Point x y b → r ≡ Point v t m → (x ≡ v) × (y ≡ t) × (b ≡ m)
-alike r x y v t b m p q = ((cc), (cc), (cc))
+alike : (r : Option TimedPoint) (p q : TimedPoint) → r ≡ Some p → r ≡ Some q → p ≡ q
+alike r p q x y = cc
 
--- v, t and m are the value, the time and the mark of the point at a spot; v and t are no NaN
-pub record Handed (s : List ℕ) (spot : Spot) (v t : Float) (m : Bool) : Type 0 where
-  pub value_is : v ≡ value (opened s) 1 spot.segment spot.place.k
-  pub time_is : t ≡ time (opened s) spot.segment spot.place.k
-  pub mark_is : m ≡ mark (opened s) 1 spot.segment spot.place.k
-  pub value_clean : T (not (is_nan v))
-  pub time_clean : T (not (is_nan t))
+-- p has the value, the time and the mark of the point at a spot; the first two are no NaN
+pub record Handed (s : List ℕ) (spot : Spot) (p : TimedPoint) : Type 0 where
+  pub value_is : p.value ≡ value (opened s) 1 spot.segment spot.place.k
+  pub time_is : p.time ≡ time (opened s) spot.segment spot.place.k
+  pub mark_is : p.mark ≡ mark (opened s) 1 spot.segment spot.place.k
+  pub value_clean : T (not (is_nan p.value))
+  pub time_clean : T (not (is_nan p.time))
 
 -- the point's line, of the bits of the two and of the mark
-pub handed_line : (s : List ℕ) (spot : Spot) (v t : Float) (m : Bool) → Handed s spot v t m → (x y : ℕ) → x ≡ to_bits binary64 v → y ≡ to_bits binary64 t
-    → line (decimal spot.segment ∷ decimal spot.place.k ∷ hex x ∷ hex y ∷ decimal (mark_number m) ∷ []) ≡ point_line (opened s) spot.segment spot.place.k
+pub handed_line : (s : List ℕ) (spot : Spot) (p : TimedPoint) → Handed s spot p → (x y : ℕ) → x ≡ to_bits binary64 p.value → y ≡ to_bits binary64 p.time
+    → line (decimal spot.segment ∷ decimal spot.place.k ∷ hex x ∷ hex y ∷ decimal (mark_number p.mark) ∷ []) ≡ point_line (opened s) spot.segment spot.place.k
 unfolding point_line
-handed_line s spot v t m h x y p q =
-    let value-bits = p ∙ ap (to_bits binary64) h.value_is in
-    let time-bits = q ∙ ap (to_bits binary64) h.time_is in
+handed_line s spot p h x y v t =
+    let value-bits = v ∙ ap (to_bits binary64) h.value_is in
+    let time-bits = t ∙ ap (to_bits binary64) h.time_is in
     λ i. line (decimal spot.segment ∷ decimal spot.place.k ∷ hex (value-bits i) ∷ hex (time-bits i) ∷ decimal (mark_number (h.mark_is i)) ∷ [])
 
 -- a page leaves less
@@ -212,23 +212,25 @@ module _ (s : List ℕ) (b : Bytes s) where
     answers : point_refusal s 1 n k ≡ 0
     answers = walk_points s 1 n walks k below
 
-    step_is : step_at s spot.place ≡ Point (value (opened s) 1 n k) (time (opened s) n k) (mark (opened s) 1 n k)
+    step_is : step_at s spot.place ≡ Some (timed (value (opened s) 1 n k) (time (opened s) n k) (mark (opened s) 1 n k))
     step_is = ap (step_at s) is ∙ step_point s b 1 n k answers below
 
     -- the step there is not done, and hands out its point's numbers
-    pub step_never : (r : Step) → r ≡ step_at s spot.place → r ≡ Done → ⊥
-    step_never r e d = differ r (value (opened s) 1 n k) (time (opened s) n k) (mark (opened s) 1 n k) (e ∙ step_is) d
+    pub step_never : (r : Option TimedPoint) → r ≡ step_at s spot.place → r ≡ None → ⊥
+    step_never r e d = differ r (timed (value (opened s) 1 n k) (time (opened s) n k) (mark (opened s) 1 n k)) (e ∙ step_is) d
 
-    pub step_handed : (r : Step) (v t : Float) (m : Bool) → r ≡ step_at s spot.place → r ≡ Point v t m → Handed s spot v t m
-    step_handed r v t m e p =
-        let q = alike r v t (value (opened s) 1 n k) (time (opened s) n k) m (mark (opened s) 1 n k) p (e ∙ step_is) in
+    pub step_handed : (r : Option TimedPoint) (p : TimedPoint) → r ≡ step_at s spot.place → r ≡ Some p → Handed s spot p
+    step_handed r p e is =
+        let q = alike r p (timed (value (opened s) 1 n k) (time (opened s) n k) (mark (opened s) 1 n k)) is (e ∙ step_is) in
+        let value_is : p.value ≡ value (opened s) 1 n k = ap (λ (x : TimedPoint). x.value) q in
+        let time_is : p.time ≡ time (opened s) n k = ap (λ (x : TimedPoint). x.time) q in
         let near = point_near s b 1 n k answers in
         record {
-          value_is = q.0;
-          time_is = q.1;
-          mark_is = q.2;
-          value_clean = subst (λ (x : Float). T (not (is_nan x))) (sym q.0) (clean 149 (value (opened s) 1 n k) near.value_near.is_whole);
-          time_clean = subst (λ (x : Float). T (not (is_nan x))) (sym q.1) (clean 1074 (time (opened s) n k) near.time_near.is_whole);
+          value_is = value_is;
+          time_is = time_is;
+          mark_is = ap (λ (x : TimedPoint). x.mark) q;
+          value_clean = subst (λ (x : Float). T (not (is_nan x))) (sym value_is) (clean 149 (value (opened s) 1 n k) near.value_near.is_whole);
+          time_clean = subst (λ (x : Float). T (not (is_nan x))) (sym time_is) (clean 1074 (time (opened s) n k) near.time_near.is_whole);
         }
 
     -- there is room for one segment more

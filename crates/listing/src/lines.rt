@@ -1,4 +1,5 @@
-// The lines of a listing, each written over a lent buffer.
+// The lines of a listing, each written over a lent buffer, column by column: a loop over a list of columns is no plainer, since each kind has
+// a width of its own, and `line_room` is their sum.
 ghost use Rattle.std.specs.Prelude.{[], ◌∷◌, ◌+◌, ◌≤◌, ◌<◌, length};
 ghost use Rattle.rules.specs.Points.{mark_number};
 ghost use Rattle.digits.specs.Digits.{decimal, hex};

@@ -5,8 +5,7 @@ mod lines;
 mod pages;
 mod text;
 
-ghost use Rattle.std.specs.Prelude.{◌≡◌, ◌+◌, ◌^◌, ◌≤◌, ◌<◌, length};
-ghost use Rattle.std.specs.Bool.{OnTrue};
+ghost use Rattle.std.specs.Prelude.{◌≡◌, ◌+◌, ◌^◌, ◌≤◌, ◌<◌, length, OnOk, is_ok};
 ghost use Rattle.std.specs.Io.KnownBytes.{Appends};
 ghost use Rattle.listing.specs.Inputs.{Behind, Read, TakesBehind, TakesTo};
 ghost use Rattle.listing.specs.Listing.{listing};
@@ -14,6 +13,7 @@ ghost use Rattle.listing.specs.Outputs.{Next, Printed};
 
 use std::io;
 
+// Not an io::Result, since `Read` counts what was read where a call fails, too.
 // What was read: so many bytes at the buffer's start, and how many of them the last call of read moved, `None` where it
 // failed.
 #[derive(Clone, Copy)]
@@ -33,7 +33,7 @@ fn main(rt: HostRuntime) {
     }
     let count = input.count;
     let mut sent = 0;
-    if !print(&buffer[..count], &mut rt.stdout(), &mut sent) {
+    if print(&buffer[..count], &mut rt.stdout(), &mut sent).is_err() {
         let _ = rt.eprintln("listing: standard output cannot be written");
     }
 }
@@ -73,38 +73,38 @@ fn read_behind<R: io::Read>(reader: &mut R, buffer: &mut [u8], at: usize) -> Inp
     }
 }
 
-// Writes the listing of a block to the output, page by page, and answers whether all of it was taken. `sent` counts the
+// Writes the listing of a block to the output, page by page, until all of it was taken or a write fails. `sent` counts the
 // bytes handed on.
-fn print<W: io::Write>(block: &[u8], writer: &mut W, sent: &mut usize) -> bool
+fn print<W: io::Write>(block: &[u8], writer: &mut W, sent: &mut usize) -> io::Result<()>
     requires { sent.old ≡ 0 }
-    ensures printed { Printed block.now sent.new result }
-    ensures bytes { OnTrue result (Appends (W.contents writer.old) (W.contents writer.new) (listing block.now)) }
+    ensures printed { Printed block.now sent.new (is_ok result) }
+    ensures bytes { OnOk result (Appends (W.contents writer.old) (W.contents writer.new) (listing block.now)) }
 {
     let mut page = [0u8; 4096];
-    let out: &mut [u8] = &mut page;
-    let first = pages::put_front(block, out);
+    let first = pages::put_front(block, &mut page);
     let mut spot = pages::begin(block);
-    let mut going = write_next(block, &out[..first], writer, sent);
-    while going && spot.place.refusal == 0 {
-        let written = pages::put_page(block, spot, out);
-        let count = written.count;
-        going = write_next(block, &out[..count], writer, sent);
+    write_next(block, &page[..first], writer, sent)?;
+    while spot.place.refusal == 0 {
+        let written = pages::put_page(block, spot, &mut page);
+        write_next(block, &page[..written.count], writer, sent)?;
         spot = written.spot;
     }
-    going
+    Ok(())
 }
 
-// Hands the next bytes of a block's listing to the output, counts them, and answers whether they were taken. Nothing else
-// writes there.
-fn write_next<W: io::Write>(block: &[u8], bytes: &[u8], writer: &mut W, sent: &mut usize) -> bool
+// Hands the next bytes of a block's listing to the output and counts them, also where the write fails. Nothing else writes
+// there.
+fn write_next<W: io::Write>(
+    block: &[u8],
+    bytes: &[u8],
+    writer: &mut W,
+    sent: &mut usize,
+) -> io::Result<()>
     requires next { Next block.now sent.old bytes.now }
     requires bytes_bound { sent.old + length bytes.now < 2 ^ 64 }
     ensures sent { sent.new ≡ sent.old + length bytes.now }
-    ensures taken { OnTrue result (Appends (W.contents writer.old) (W.contents writer.new) bytes.now) }
+    ensures taken { OnOk result (Appends (W.contents writer.old) (W.contents writer.new) bytes.now) }
 {
     *sent += bytes.len();
-    match writer.write_all(bytes) {
-        Ok(()) => true,
-        Err(_) => false,
-    }
+    writer.write_all(bytes)
 }

@@ -6,7 +6,7 @@ ghost use Rattle.copies.specs.Copies.{Wrote};
 ghost use Rattle.listing.specs.Pages.{line_room, Stands, Paged, front, rest, spot_at};
 
 use crate::lines;
-use points::{Place, Step};
+use points::Place;
 
 // The most bytes of input that are listed.
 const MOST: usize = 65536;
@@ -93,15 +93,15 @@ fn put_line(block: &[u8], spot: Spot, out: &mut [u8], at: usize) -> usize
     ensures lower_bound { (at < result) × (result ≤ at + line_room) }
 {
     let place = spot.place;
-    let Step::Point { value, time, mark } = points::step_at(block, place) else {
+    let Some(point) = points::step_at(block, place) else {
         return at;
     };
     lines::put_point(
         spot.segment,
         place.k,
-        scale::bits(value),
-        scale::bits(time),
-        mark,
+        scale::bits(point.value),
+        scale::bits(point.time),
+        point.mark,
         out,
         at,
     )
@@ -116,10 +116,7 @@ fn after_line(block: &[u8], spot: Spot) -> Spot
 {
     let place = points::after(spot.place);
     if place.k < place.points {
-        return Spot {
-            segment: spot.segment,
-            place,
-        };
+        return Spot { place, ..spot };
     }
     spot_at(block, spot.segment + 1)
 }

@@ -10,8 +10,8 @@ pub fn put_decimal(n: u32, end: u8, out: &mut [u8], at: usize) -> usize
     ensures wrote { Wrote out.old at (decimal n ++ (end ∷ [])) out.new result }
     ensures lower_bound { (at < result) × (result ≤ at + 11) }
 {
-    let width = digits::places(n as u64);
-    put_word(n as u64, 10, width, end, out, at)
+    let n = u64::from(n);
+    put_word(n, 10, digits::places(n), end, out, at)
 }
 
 // n as 16 hexadecimal digits and the byte `end`, from `at`; and where they end.
@@ -29,8 +29,7 @@ pub fn put_mark(mark: bool, end: u8, out: &mut [u8], at: usize) -> usize
     ensures wrote { Wrote out.old at (decimal (mark_number mark) ++ (end ∷ [])) out.new result }
     ensures value { result ≡ at + 2 }
 {
-    let n = fills::mark_number(mark) as u64;
-    put_word(n, 10, 1, end, out, at)
+    put_word(u64::from(mark), 10, 1, end, out, at)
 }
 
 // The `width` lowest digits of n and the byte `end`, from `at`; and where they end.

@@ -1,4 +1,5 @@
 -- A fill by the walk: its number is the walk's, then 13 (`number-refused`, `number_short`, `number_none`); a step hands out the next value (`handed`) until all are out (`stopped`).
+use Rattle.std.specs.Prelude.{Option, Some, None}
 use mathlib.Core.Path.{◌≡◌, refl, sym, ap, ◌∙◌}
 use mathlib.Core.Bool.{Bool, cond}
 use mathlib.Core.List.{List, ◌++◌, map}
@@ -7,7 +8,6 @@ use Prim.Native.Nat.{ℕ, zero, suc, ◌≤◌, ◌<◌}
 use native.Mathlib.Nat.{eq-or-lt_of_le}
 use native.Mathlib.Omega.{arith}
 use lib.Dec.{leb}
-use lib.Ieee.{Float}
 use lib.ListN.{drop}
 use borrow.Author.Tests.{le-leb, lt-leb}
 use Rattle.rules.specs.Numbers.{Bytes, up_from}
@@ -21,9 +21,8 @@ use Rattle.fills.specs.Fills.{over}
 use Rattle.fills.proofs.Writes.{over-start, length_map_up}
 use Rattle.points.specs.declared.answers.Point as answers
 use Rattle.points.specs.declared.walk.Place.{Place}
-use Rattle.points.specs.declared.walk.Step.{Step}
-use Rattle.points.specs.declared.walk.Step.TheVariants.{Point, Done}
-use Rattle.points.specs.Walks.{place_of, step_at, place_after}
+use Rattle.points.specs.declared.walk.TimedPoint.{TimedPoint}
+use Rattle.points.specs.Walks.{timed, place_of, step_at, place_after}
 use Rattle.points.proofs.Refusals.{walk_points}
 use Rattle.points.proofs.Bounds.{point_answer}
 use Rattle.points.proofs.Walking.{place-number, begins, walk_steps, walk_ends}
@@ -72,35 +71,29 @@ module _ (s : List ℕ) (a n : ℕ) where
 
   -- ---- a step after the first k
 
-  module _ (b : Bytes s) (e : walk_refusal s a n ≡ 0) (k : ℕ) (h : k ≤ M) (p : Place) (ep : p ≡ place_after s a n k) (r : Step) (er : r ≡ step_at s p) where
-    before-end : k < M → r ≡ Point (value (opened s) a n k) (time (opened s) n k) (mark (opened s) a n k)
+  module _ (b : Bytes s) (e : walk_refusal s a n ≡ 0) (k : ℕ) (h : k ≤ M) (place : Place) (ep : place ≡ place_after s a n k) (r : Option TimedPoint) (er : r ≡ step_at s place) where
+    before-end : k < M → r ≡ Some (timed (value (opened s) a n k) (time (opened s) n k) (mark (opened s) a n k))
     before-end l =
         er ∙ ap (step_at s) ep ∙ walk_steps s a n e b k l
-        ∙ ap (λ (x : answers.Point). Point x.value x.time x.mark) (point_answer s a n k (walk_points s a n e k l))
+        ∙ ap (λ (x : answers.Point). Some (timed x.value x.time x.mark)) (point_answer s a n k (walk_points s a n e k l))
 
-    at-end : k ≡ M → r ≡ Done
+    at-end : k ≡ M → r ≡ None
     at-end q = er ∙ ap (step_at s) ep ∙ (walk_ends s a n e k (omega arith)).0
 
     -- a point is the next, its value is the next value, its time the next time, and its mark the next mark
-    pub handed : (v t : Float) (m : Bool) → r ≡ Point v t m → (k < M) × (v ≡ value (opened s) a n k) × (t ≡ time (opened s) n k) × (m ≡ mark (opened s) a n k)
-    handed v t m x =
-        ⊎_elim (λ (q : k ≡ M). absurd (differ (at-end q))) (λ (l : k < M). let y = before-end l in (l, of_value y, of_time y, of_mark y)) (eq-or-lt_of_le h)
+    pub handed : (p : TimedPoint) → r ≡ Some p → (k < M) × (p.value ≡ value (opened s) a n k) × (p.time ≡ time (opened s) n k) × (p.mark ≡ mark (opened s) a n k)
+    handed p x =
+        ⊎_elim (λ (q : k ≡ M). absurd (differ (at-end q))) (λ (l : k < M). let y = same (before-end l) in (l, ap (λ (t : TimedPoint). t.value) y, ap (λ (t : TimedPoint). t.time) y, ap (λ (t : TimedPoint). t.mark) y)) (eq-or-lt_of_le h)
       where
-        differ : r ≡ Done → ⊥
+        differ : r ≡ None → ⊥
         differ y = let z : ◌≡◌ {A = ℕ} 0 1 = cc in omega arith
 
-        of_value : r ≡ Point (value (opened s) a n k) (time (opened s) n k) (mark (opened s) a n k) → v ≡ value (opened s) a n k
-        of_value y = cc
-
-        of_time : r ≡ Point (value (opened s) a n k) (time (opened s) n k) (mark (opened s) a n k) → t ≡ time (opened s) n k
-        of_time y = cc
-
-        of_mark : r ≡ Point (value (opened s) a n k) (time (opened s) n k) (mark (opened s) a n k) → m ≡ mark (opened s) a n k
-        of_mark y = cc
+        same : r ≡ Some (timed (value (opened s) a n k) (time (opened s) n k) (mark (opened s) a n k)) → p ≡ timed (value (opened s) a n k) (time (opened s) n k) (mark (opened s) a n k)
+        same y = cc
 
     -- and after it is done no value is left
-    pub stopped : r ≡ Done → k ≡ M
+    pub stopped : r ≡ None → k ≡ M
     stopped x = ⊎_elim (λ (q : k ≡ M). q) (λ (l : k < M). absurd (differ (before-end l))) (eq-or-lt_of_le h)
       where
-        differ : r ≡ Point (value (opened s) a n k) (time (opened s) n k) (mark (opened s) a n k) → ⊥
+        differ : r ≡ Some (timed (value (opened s) a n k) (time (opened s) n k) (mark (opened s) a n k)) → ⊥
         differ y = let z : ◌≡◌ {A = ℕ} 0 1 = cc in omega arith

@@ -10,7 +10,7 @@ ghost use Rattle.points.specs.Points.{filled_as, filled_out};
 ghost use Rattle.points.specs.Walks.{place_of};
 ghost use Rattle.measured.specs.Measured.{told_of};
 
-use points::{Place, Step};
+use points::{Place, Walk};
 
 // All M values of a segment of an array, at the start of out, by the fill; the answer has the refusal's number in its high half, and in its
 // low half how many samples stand at the rail.
@@ -47,14 +47,14 @@ fn put_points(block: &[u8], array: u32, segment: u32, first: Place, out: &mut [f
     ensures out_after { out.new ≡ map (value (opened block.now) array segment) (up_from 0 first.points) ++ drop first.points out.old }
     ensures value { result ≡ mark_count (opened block.now) array segment }
 {
-    let mut place = first;
+    let walk = Walk {
+        block,
+        place: first,
+    };
     let mut marks = 0;
-    let mut k = 0;
-    while let Step::Point { value, mark, .. } = points::step_at(block, place) {
-        out[k] = value;
-        marks = marks + fills::mark_number(mark) as u32;
-        place = points::after(place);
-        k += 1;
+    for (k, point) in walk.enumerate() {
+        out[k] = point.value;
+        marks += u32::from(point.mark);
     }
     marks
 }
@@ -63,5 +63,5 @@ fn put_points(block: &[u8], array: u32, segment: u32, first: Place, out: &mut [f
 fn told(refusal: u32, marks: u32) -> u64
     ensures { result ≡ refusal * 4294967296 + marks }
 {
-    refusal as u64 * 4294967296 + marks as u64
+    u64::from(refusal) << 32 | u64::from(marks)
 }

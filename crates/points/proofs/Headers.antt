@@ -1,4 +1,5 @@
 -- The same payload under another accepted header: `point`, `fill` and each step of a walk answer what they answer for the block itself.
+use Rattle.std.specs.Prelude.{Option, Some}
 use mathlib.Core.Path.{◌≡◌, refl, sym, ap, ◌∙◌}
 use mathlib.Core.Bool.{Bool, true, false}
 use mathlib.Core.List.{List, ◌++◌, map}
@@ -15,10 +16,9 @@ use Rattle.rules.specs.Points.{value, mark_count, walk_refusal}
 use Rattle.rules.proofs.Headers.{SameAnswers}
 use Rattle.points.specs.declared.answers.Point as answers
 use Rattle.points.specs.declared.answers.Filled.{Filled}
-use Rattle.points.specs.declared.walk.Step.{Step}
-use Rattle.points.specs.declared.walk.Step.TheVariants.{Point}
+use Rattle.points.specs.declared.walk.TimedPoint.{TimedPoint}
 use Rattle.points.specs.Points.{point_by, point_as, filled_by, filled_as, out_by, filled_out}
-use Rattle.points.specs.Walks.{step_at, place_after}
+use Rattle.points.specs.Walks.{timed, step_at, place_after}
 use Rattle.points.proofs.Learnt.{PointCall, FillCall, WalkedCall}
 use Rattle.points.proofs.Walking.{walk_steps, walk_ends, walk_refused, walked_is}
 
@@ -50,7 +50,7 @@ module _ (s t : List ℕ) (e : SameAnswers s t) where
         at z true f =
             let l : k < points (opened s).head = ltb-true k (points (opened s).head) f in
             walk_steps t a n (e.same_walk a n ∙ z) bt k (omega (arith, m))
-            ∙ ap (λ (p : answers.Point). Point p.value p.time p.mark) (same_answer a n k)
+            ∙ ap (λ (p : answers.Point). Some (timed p.value p.time p.mark)) (same_answer a n k)
             ∙ sym (walk_steps s a n z bs k l)
         at z false f =
             let l : points (opened s).head ≤ k = ltb-false k (points (opened s).head) f in
@@ -60,5 +60,5 @@ module _ (s t : List ℕ) (e : SameAnswers s t) where
         go zero z = at z (ltb k (points (opened s).head)) refl
         go (suc r) z = (walk_refused t a n (λ y. omega (arith, e.same_walk a n)) k).1 ∙ sym (walk_refused s a n (λ y. omega arith) k).1
 
-    pub walked_same : (x y : Step) → WalkedCall s a n k x → WalkedCall t a n k y → y ≡ x
+    pub walked_same : (x y : Option TimedPoint) → WalkedCall s a n k x → WalkedCall t a n k y → y ≡ x
     walked_same x y p q = q.2 ∙ walked_is t a n k ∙ step_same ∙ sym (walked_is s a n k) ∙ sym p.2

@@ -1,7 +1,7 @@
--- Refused as the walk is, without room for the values, for the times or for the marks, or filled by the walk's points.
+-- Refused as the walk is, or without room in the shortest slice, or filled by the walk's points.
 use mathlib.Core.Path.{◌≡◌, sym, ◌∙◌}
 use mathlib.Core.List.{List}
-use Prim.Native.Nat.{ℕ, min, ◌≤◌, ◌<◌}
+use Prim.Native.Nat.{ℕ, min, ◌≤◌}
 use native.Mathlib.Omega.{arith}
 use lib.Ieee.{Float}
 use lib.ListN.{length}
@@ -11,7 +11,7 @@ use Rattle.compared.specs.Tested.{mark_byte, steps_number, values_left, times_le
 use Rattle.measured.proofs.Walked.{number-refused, walks, points_are, number_short, number_none}
 use Rattle.compared.proofs.Tested.{steps_refused, steps_full}
 use Rattle.compared.proofs.walks.compared_steps.Goals as goal
-use Rattle.compared.proofs.walks.compared_steps.Goals.{Else-place-ne0, Start}
+use Rattle.compared.proofs.walks.compared_steps.Goals.{Start}
 
 -- a refused walk leaves the three slices as they were
 refused : (s : List ℕ) (a n m : ℕ) (values times : List Float) (marks : List ℕ) → m ≡ steps_number s a n values times marks → (m ≡ 0 → ⊥)
@@ -38,41 +38,17 @@ returns-then-place-ne0 c =
       marks_after = told.1.1.1;
     }
 
--- 13, by the shortest slice
+-- the room of the shortest slice
 abbrev room : Start → ℕ
 room c = min (min (length c.args.values.now) (length c.args.times.now)) (length c.args.marks.now)
 
-short : (c : Else-place-ne0) → room (goal.at.Else-place-ne0 c).Start < c.place_of-place.result.points
-    → 13 ≡ steps_number c.args.block.now c.args.array c.args.segment c.args.values.now c.args.times.now c.args.marks.now
-short c h =
+pub returns-then-room-place : goal.returns-then-room-place
+returns-then-room-place c =
     let a = c.args in
     let p = c.place_of-place in
-    number_short a.block.now a.array a.segment p.result p.ensures (walks a.block.now a.array a.segment p.result p.ensures c.if-place-ne0.false) (room (goal.at.Else-place-ne0 c).Start) h
-
-pub returns-then-values-place : goal.returns-then-values-place
-returns-then-values-place c =
-    let a = c.args in
-    let told = refused a.block.now a.array a.segment 13 a.values.now a.times.now a.marks.now (short (goal.at.returns-then-values-place c).Else-place-ne0 (omega (arith, c.if-values-place.true))) (λ z. omega arith) in record {
-      value = told.0;
-      values_after = told.1.0;
-      times_after = told.1.1.0;
-      marks_after = told.1.1.1;
-    }
-
-pub returns-then-times-place : goal.returns-then-times-place
-returns-then-times-place c =
-    let a = c.args in
-    let told = refused a.block.now a.array a.segment 13 a.values.now a.times.now a.marks.now (short (goal.at.returns-then-times-place c).Else-place-ne0 (omega (arith, c.if-times-place.true))) (λ z. omega arith) in record {
-      value = told.0;
-      values_after = told.1.0;
-      times_after = told.1.1.0;
-      marks_after = told.1.1.1;
-    }
-
-pub returns-then-marks-place : goal.returns-then-marks-place
-returns-then-marks-place c =
-    let a = c.args in
-    let told = refused a.block.now a.array a.segment 13 a.values.now a.times.now a.marks.now (short (goal.at.returns-then-marks-place c).Else-place-ne0 (omega (arith, c.if-marks-place.true))) (λ z. omega arith) in record {
+    let z = walks a.block.now a.array a.segment p.result p.ensures c.if-place-ne0.false in
+    let short = number_short a.block.now a.array a.segment p.result p.ensures z (room (goal.at.returns-then-room-place c).Start) (omega (arith, c.if-room-place.true)) in
+    let told = refused a.block.now a.array a.segment 13 a.values.now a.times.now a.marks.now short (λ z. omega arith) in record {
       value = told.0;
       values_after = told.1.0;
       times_after = told.1.1.0;
@@ -86,7 +62,7 @@ put_steps-requires c =
     record {
       first_value = c.place_of-place.ensures;
       segment_value = walks a.block.now a.array a.segment p.result c.place_of-place.ensures c.if-place-ne0.false;
-      points_in_bounds = (c.if-values-place.false, c.if-times-place.false, c.if-marks-place.false);
+      points_in_bounds = (omega arith, omega arith, omega arith);
     }
 
 pub returns : goal.returns
@@ -96,7 +72,7 @@ returns c =
     let p = c.place_of-place in
     let z = walks a.block.now a.array a.segment p.result c.place_of-place.ensures c.if-place-ne0.false in
     let m = points_are a.block.now a.array a.segment p.result c.place_of-place.ensures z in
-    let fits : p.result.points ≤ room (goal.at.returns c).Start = omega (arith, c.if-values-place.false, c.if-times-place.false, c.if-marks-place.false) in
+    let fits : p.result.points ≤ room (goal.at.returns c).Start = omega arith in
     let e = number_none a.block.now a.array a.segment p.result c.place_of-place.ensures z (room (goal.at.returns c).Start) fits in
     let number : ℕ = steps_number a.block.now a.array a.segment a.values.now a.times.now a.marks.now in
     record {

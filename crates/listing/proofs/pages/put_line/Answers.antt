@@ -17,18 +17,18 @@ returns-in_default-clause-lower_bound c =
 pub bits-requires : goal.bits-requires
 bits-requires c =
     let s = c.args.block.now in
-    let v = c.in-Point in
-    (step_handed s (below-index 256 s (λ i h. (c.type_inv.block i).fits)) c.args.spot c.requires.stands c.requires.refusal_value c.step_at.result v.value v.time v.mark c.step_at.ensures v.is).value_clean
+    let v = c.in-Some in
+    (step_handed s (below-index 256 s (λ i h. (c.type_inv.block i).fits)) c.args.spot c.requires.stands c.requires.refusal_value c.step_at.result v.point c.step_at.ensures v.is).value_clean
 
 pub bits-requires-2 : goal.bits-requires-2
 bits-requires-2 c =
     let s = c.args.block.now in
-    let v = c.in-Point in
-    (step_handed s (below-index 256 s (λ i h. (c.type_inv.block i).fits)) c.args.spot c.requires.stands c.requires.refusal_value c.step_at.result v.value v.time v.mark c.step_at.ensures v.is).time_clean
+    let v = c.in-Some in
+    (step_handed s (below-index 256 s (λ i h. (c.type_inv.block i).fits)) c.args.spot c.requires.stands c.requires.refusal_value c.step_at.result v.point c.step_at.ensures v.is).time_clean
 
 pub returns-clause-wrote : goal.returns-clause-wrote
 returns-clause-wrote c =
     let s = c.args.block.now in
-    let v = c.in-Point in
-    let h = step_handed s (below-index 256 s (λ i h. (c.type_inv.block i).fits)) c.args.spot c.requires.stands c.requires.refusal_value c.step_at.result v.value v.time v.mark c.step_at.ensures v.is in
-    worded (handed_line s c.args.spot v.value v.time v.mark h c.bits.result c.bits-2.result c.bits.ensures c.bits-2.ensures) c.put_point.ensures.wrote
+    let v = c.in-Some in
+    let h = step_handed s (below-index 256 s (λ i h. (c.type_inv.block i).fits)) c.args.spot c.requires.stands c.requires.refusal_value c.step_at.result v.point c.step_at.ensures v.is in
+    worded (handed_line s c.args.spot v.point h c.bits.result c.bits-2.result c.bits.ensures c.bits-2.ensures) c.put_point.ensures.wrote

@@ -4,8 +4,7 @@ use lib.ListN.{length}
 use Rattle.rules.proofs.Tests.{Each, all_each}
 use Rattle.scale.specs.Scale.{rule_as}
 use Rattle.scale.proofs.Finite.{pair-finite, rule_finite}
-use Rattle.points.specs.declared.walk.Step.TheVariants.{Point}
-use Rattle.points.specs.Walks.{finites, point_at}
+use Rattle.points.specs.Walks.{finites, timed, point_at}
 use Rattle.points.proofs.Stepping.{Inside, inside-says}
 use Rattle.points.proofs.steps.answered.Goals as goal
 use Rattle.points.proofs.steps.answered.Goals.{After-shared_slice_known-1}
@@ -38,4 +37,4 @@ time-time-requires c = record {
 
 pub returns : goal.returns
 unfolding point_at
-returns c = λ i. Point (c.sampled_at-sampled.ensures.value_value i) (c.time-time.ensures.value i) (c.sampled_at-sampled.ensures.mark_value i)
+returns c = λ i. timed (c.sampled_at-sampled.ensures.value_value i) (c.time-time.ensures.value i) (c.sampled_at-sampled.ensures.mark_value i)

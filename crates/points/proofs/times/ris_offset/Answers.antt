@@ -4,7 +4,7 @@ use mathlib.Core.Bool.{Bool, cond}
 use Prim.Native.Nat.{ℕ, ◌+◌, ◌*◌, ◌≤◌}
 use native.Mathlib.Omega.{arith}
 use lib.ListN.{length, take, drop}
-use lib.Ieee.{binary64, nan_bits, of_bits}
+use lib.Ieee.{binary64, of_bits}
 use borrow.Author.Tests.{leb-true}
 use Rattle.rules.specs.Numbers.{number}
 use Rattle.rules.specs.Rules.{finite64}
@@ -19,10 +19,6 @@ inside c =
     let a = c.args in
     leb-true (a.table + (a.j * 8 + 8)) (length a.block.now) (passes c.fits.ensures c.if-not-fits.false-raw)
 
-pub float_from_bits-result : goal.float_from_bits-result
-unfolding nan_bits
-float_from_bits-result c = tt
-
 pub returns-then-not-fits : goal.returns-then-not-fits
 unfolding ris_offset
 returns-then-not-fits c =
@@ -35,10 +31,6 @@ overflow_add-at c = omega (arith, inside (goal.at.overflow_add-at c).Else-not-fi
 
 pub finite_double_at-requires : goal.finite_double_at-requires
 finite_double_at-requires c = omega (arith, inside (goal.at.finite_double_at-requires c).Else-not-fits)
-
-pub float_from_bits-result-then-not-finite_double_at : goal.float_from_bits-result-then-not-finite_double_at
-unfolding nan_bits
-float_from_bits-result-then-not-finite_double_at c = tt
 
 -- by the test of the pattern
 module _ (c : After-finite_double_at) where

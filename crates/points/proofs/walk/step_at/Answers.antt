@@ -1,7 +1,8 @@
 -- The tests in turn, and the point.
-use mathlib.Core.Path.{◌∙◌}
+use mathlib.Core.Path.{ap, ◌∙◌}
 use native.Mathlib.Omega.{arith}
 use lib.ListN.{length}
+use Rattle.std.specs.Prelude.{Some}
 use Rattle.scale.specs.Scale.{rule_as}
 use Rattle.block.proofs.Ladder.{passes, fails}
 use Rattle.points.proofs.Stepping.{inside-says, outside, unsound, sound}
@@ -37,6 +38,6 @@ returns c =
     let a = c.args in
     let i = c.index_of-i in
     let r = c.rule_at-rule in
-    c.answered.ensures
+    ap Some c.answered.ensures
     ∙ sound a.block.now a.place i.result c.index_of-i.ensures (passes c.is_inside.ensures c.if-not-is_inside.false-raw) (rule_as r.result) c.rule_at-rule.ensures
     (passes c.is_finite.ensures c.if-not-is_finite.false-raw)
