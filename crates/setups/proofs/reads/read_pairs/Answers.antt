@@ -49,6 +49,9 @@ returns-then-line-next-ne44 c =
     let l = c.loop in
     step_stop c.args.line.now l.at (4 - l.counter) l.values c.pair_at.result c.pair_at.ensures (omega (arith, c.loop-test.true)) c.in_ok-key.field-0 c.in_ok-key.was (more (goal.at.returns-then-line-next-ne44 c).Else-next-line) c.if-line-next-ne44.true ∙ l.invariant.same
 
+pub overflow_add-at : goal.overflow_add-at
+overflow_add-at c = omega (arith, more (goal.at.overflow_add-at c).Else-next-line)
+
 pub loop-preserved : goal.loop-preserved
 loop-preserved c =
     let l = c.loop in
