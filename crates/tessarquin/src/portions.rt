@@ -81,6 +81,7 @@ fn put_layout(o: Opened, out: &mut [u8])
 }
 
 // Ten numbers of eight bytes from `at`, the high byte first.
+// They are held in four bytes each: for `put_numbers` they would be copied to eight bytes each first.
 fn put_ten(ten: [u32; 10], out: &mut [u8], at: usize)
     requires { at + 80 ≤ length out.old }
     ensures { out.new ≡ splice out.old at (all_bytes 0 8 ten) }
