@@ -6,13 +6,13 @@ use Prim.Native.Nat.{ℕ, ◌+◌, ◌*◌, ◌≤◌, ◌<◌}
 use native.Mathlib.Omega.{arith}
 use lib.Dec.{leb}
 use borrow.Author.Tests.{le-leb, lt-leb}
+use Rattle.std.specs.Prelude.{Option, Some, None}
 use Rattle.rules.specs.Cut.{Setup, step, or_else, combined, combined_refusal}
-use Rattle.cuts.specs.declared.Combination.{Combination}
-use Rattle.cuts.specs.declared.Combination.TheVariants.{One, Sparse}
+use Rattle.cuts.specs.declared.Setup.{Setup as Own}
 use Rattle.cuts.specs.Cuts.{number_of, setup_in, combination, combined_as}
 
 -- the case by the two tests: that of SP's product, and that of FP
-abbrev case : Bool → Bool → Setup → Combination
+abbrev case : Bool → Bool → Setup → Option Own
 case p q c = combination (cond (p && (q && true)) 0 12) c
 
 -- x and y are the two steps
@@ -27,22 +27,22 @@ module _ (a b : Setup) (c x y : ℕ) (ex : x ≡ step a) (ey : y ≡ step b) whe
   fp_is : a.fp + x * b.fp ≡ a.fp + step a * b.fp
   fp_is = λ i. a.fp + ex i * b.fp
 
-  pub sp_above : 268435455 < x * y → Sparse ≡ combined_as a b c
+  pub sp_above : 268435455 < x * y → None ≡ combined_as a b c
   sp_above h = tested false (leb (a.fp + step a * b.fp) 4294967295) (lt-leb (step a * step b) 268435455 (omega (arith, sp_is, h))) refl
 
-  pub fp_above : x * y ≤ 268435455 → 4294967295 < a.fp + x * b.fp → Sparse ≡ combined_as a b c
+  pub fp_above : x * y ≤ 268435455 → 4294967295 < a.fp + x * b.fp → None ≡ combined_as a b c
   fp_above h k =
       tested true false (le-leb (step a * step b) 268435455 (omega (arith, sp_is, h))) (lt-leb (a.fp + step a * b.fp) 4294967295 (omega (arith, fp_is, k)))
 
   pub one-setup : x * y ≤ 268435455 → a.fp + x * b.fp ≤ 4294967295 → (n : ℕ) → n ≡ or_else a.sn b.sn
-      → One (record { sp = x * y; np = c; fp = a.fp + x * b.fp; sn = n }) ≡ combined_as a b c
+      → Some (record { sp = x * y; np = c; fp = a.fp + x * b.fp; sn = n }) ≡ combined_as a b c
   one-setup h k n e =
-      (λ i. One (record { sp = sp_is i; np = c; fp = fp_is i; sn = e i }))
+      (λ i. Some (record { sp = sp_is i; np = c; fp = fp_is i; sn = e i }))
       ∙ tested true true (le-leb (step a * step b) 268435455 (omega (arith, sp_is, h))) (le-leb (a.fp + step a * b.fp) 4294967295 (omega (arith, fp_is, k)))
 
 -- ---- an answer, and what it says
 
-module _ (a b : Setup) (c : ℕ) (r : Combination) (e : r ≡ combined_as a b c) where
+module _ (a b : Setup) (c : ℕ) (r : Option Own) (e : r ≡ combined_as a b c) where
   pub combined-number : number_of r ≡ combined_refusal a b
   unfolding combined_as combined_refusal
   combined-number = ap number_of e ∙ go (leb (step a * step b) 268435455 && (leb (a.fp + step a * b.fp) 4294967295 && true))

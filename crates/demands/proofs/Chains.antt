@@ -13,8 +13,8 @@ use Rattle.chains.specs.Chain.{Asking, block_by, last_of, Made, made, uncut, sin
 use Rattle.chains.proofs.Chain.{Answered}
 use Rattle.chains.proofs.InRow as row
 use Rattle.cuts.specs.declared.Written.{Written}
-use Rattle.cuts.specs.declared.Combination.{Combination}
-use Rattle.cuts.specs.declared.Combination.TheVariants.{One}
+use Rattle.std.specs.Prelude.{Option, Some}
+use Rattle.cuts.specs.declared.Setup.{Setup as Own}
 use Rattle.cuts.specs.Cuts.{setup_of}
 use Rattle.cuts.proofs.Combining.{combined-number, combined-setup}
 use Rattle.cuts.proofs.Calls.{Call, CutCall, CombinedCall, OneCall, called, taken, said, filled, wrote, combined-one, one_called}
@@ -107,10 +107,10 @@ module _ (s : List ℕ) (bytes : Bytes s) (x : Cutting) (xs : List Cutting) (cal
 
 -- a call of `combined` answered the setup c
 abbrev pub Gave : Setup → Setup → ℕ → Setup → Type 0
-Gave a b n c = CombinedCall a b n (One (setup_of c))
+Gave a b n c = CombinedCall a b n (Some (setup_of c))
 
 gave_combined : (a b : Setup) (n : ℕ) (c : Setup) → Gave a b n c → c ≡ combined a b n
-gave_combined a b n c call = combined-setup a b n (One (setup_of c)) call.1 (sym (combined-number a b n (One (setup_of c)) call.1))
+gave_combined a b n c call = combined-setup a b n (Some (setup_of c)) call.1 (sym (combined-number a b n (Some (setup_of c)) call.1))
 
 -- such calls one for each cut, from c to d; and for the groups of a group
 abbrev pub Folded : Setup → List Made → Setup → Type 0
@@ -119,13 +119,13 @@ Folded c ms d = row.Folded Gave c ms d
 abbrev pub Combines : Group → Setup → Type 0
 Combines g c = row.Combines Gave g c
 
-answers_one : (a b : Setup) (n : ℕ) (c : Setup) → row.Answers a b n c → (r : Combination) → CombinedCall a b n r → r ≡ One (setup_of c)
-answers_one a b n c x r call = combined-one a b n r call x.answered ∙ ap (λ (d : Setup). One (setup_of d)) x.gives
+answers_one : (a b : Setup) (n : ℕ) (c : Setup) → row.Answers a b n c → (r : Option Own) → CombinedCall a b n r → r ≡ Some (setup_of c)
+answers_one a b n c x r call = combined-one a b n r call x.answered ∙ ap (λ (d : Setup). Some (setup_of d)) x.gives
 
 -- from what leaves out nothing: behind the calls for ys, the one for y answers the single setup of all
 pub combined-in_turn : (s : List ℕ) → Bytes s → (ys : List Cutting) (y : Cutting) → InRow s (ys ++ (y ∷ []))
-    → (c : Setup) → Folded uncut.0 (map answered_by ys) c → (r : Combination) → CombinedCall c y.setup (counted y) r
-    → r ≡ One (setup_of (single_setup (map answered_by (ys ++ (y ∷ [])))))
+    → (c : Setup) → Folded uncut.0 (map answered_by ys) c → (r : Option Own) → CombinedCall c y.setup (counted y) r
+    → r ≡ Some (setup_of (single_setup (map answered_by (ys ++ (y ∷ [])))))
 combined-in_turn s bytes ys y calls c f r call =
     answers_one (single_setup (map answered_by ys)) y.setup (counted y) (single_setup (map answered_by (ys ++ (y ∷ []))))
     (row.in_turn-answers asks counted written Accepted cut_by s bytes ys y calls) r
@@ -137,8 +137,8 @@ module _ (s : List ℕ) (bytes : Bytes s) (xs : List Cutting) (calls : InRow s x
   groups_fit g e = row.groups_answered asks counted written Accepted cut_by s bytes xs calls g e
 
   -- and that for two groups which have all the cuts answers the single setup
-  pub combined_groups : (g h : Group) → cuts_in (both g h) ≡ map answered_by xs → (a b : Setup) → Combines g a → Combines h b → (r : Combination) → CombinedCall a b (grouped h).1 r
-      → r ≡ One (setup_of (single_setup (map answered_by xs)))
+  pub combined_groups : (g h : Group) → cuts_in (both g h) ≡ map answered_by xs → (a b : Setup) → Combines g a → Combines h b → (r : Option Own) → CombinedCall a b (grouped h).1 r
+      → r ≡ Some (setup_of (single_setup (map answered_by xs)))
   combined_groups g h e a b p q r call =
       answers_one (grouped g).0 (grouped h).0 (grouped h).1 (single_setup (map answered_by xs)) (row.groups_answer asks counted written Accepted cut_by s bytes xs calls g h e) r
       (subst₂ (λ (c d : Setup). CombinedCall c d (grouped h).1 r) (row.combines_grouped Gave gave_combined g a p) (row.combines_grouped Gave gave_combined h b q) call)

@@ -2,44 +2,69 @@
 // byte and WAVE_ARRAY_COUNT 2.
 ghost use Rattle.std.specs.Prelude.{◌≤◌, length};
 
-// The payload's length of each shape: 0 the scope document's example, 1 with two segments and their trigger times, 2 with one RIS offset, 3 with
-// a second array, 4 with a trigger time and a RIS offset, 5 the example with old bytes behind the zero bytes of its names, 6 as 1 with trigger times
-// that run backwards.
-pub fn payload(shape: u32) -> u32 {
+// The shapes of blocks.
+#[derive(Clone, Copy)]
+pub enum Shape {
+    // the scope document's example
+    Example,
+    // with two segments and their trigger times
+    Segments,
+    // with one RIS offset
+    Ris,
+    // with a second array
+    Arrays,
+    // with a trigger time and a RIS offset
+    TimeAndRis,
+    // the example with old bytes behind the zero bytes of its names
+    OldBytes,
+    // with two segments, and trigger times that run backwards
+    Backwards,
+}
+
+// The payload's length of a shape.
+pub fn payload(shape: Shape) -> u32 {
     match shape {
-        1 => 380,
-        2 => 356,
-        3 => 350,
-        4 => 372,
-        6 => 380,
-        _ => 348,
+        Shape::Example | Shape::OldBytes => 348,
+        Shape::Segments | Shape::Backwards => 380,
+        Shape::Ris => 356,
+        Shape::Arrays => 350,
+        Shape::TimeAndRis => 372,
     }
 }
 
 // A block of a shape, at the start of out.
-pub fn make(shape: u32, out: &mut [u8; 512]) {
+pub fn make(shape: Shape, out: &mut [u8; 512]) {
     plain(payload(shape), 1, out);
-    if (shape == 1) | (shape == 6) {
-        numbers::put_u32(32, 1, out, 11 + 48);
-        numbers::put_u32(2, 1, out, 11 + 144);
+    match shape {
+        Shape::Example => {}
+        Shape::Segments => put_segments(out),
+        Shape::Ris => put_ris(out),
+        Shape::Arrays => numbers::put_u32(2, 1, out, 11 + 64),
+        Shape::TimeAndRis => {
+            numbers::put_u32(16, 1, out, 11 + 48);
+            put_ris(out);
+        }
+        Shape::OldBytes => {
+            copies::copy_bytes(b"OLD", 0, 3, out, 11 + 9);
+            copies::copy_bytes(b"BYTES", 0, 5, out, 11 + 27);
+        }
+        Shape::Backwards => {
+            put_segments(out);
+            numbers::put_u32(0x3ff0_0000, 1, out, 11 + 350);
+        }
     }
-    if (shape == 2) | (shape == 4) {
-        numbers::put_u32(8, 1, out, 11 + 52);
-        numbers::put_u16(1, 1, out, 11 + 322);
-    }
-    if shape == 3 {
-        numbers::put_u32(2, 1, out, 11 + 64);
-    }
-    if shape == 4 {
-        numbers::put_u32(16, 1, out, 11 + 48);
-    }
-    if shape == 5 {
-        copies::copy_bytes(b"OLD", 0, 3, out, 11 + 9);
-        copies::copy_bytes(b"BYTES", 0, 5, out, 11 + 27);
-    }
-    if shape == 6 {
-        numbers::put_u32(0x3ff0_0000, 1, out, 11 + 350);
-    }
+}
+
+// Two segments, and how long their trigger times are.
+fn put_segments(out: &mut [u8; 512]) {
+    numbers::put_u32(32, 1, out, 11 + 48);
+    numbers::put_u32(2, 1, out, 11 + 144);
+}
+
+// One sweep, and how long its RIS offset is.
+fn put_ris(out: &mut [u8; 512]) {
+    numbers::put_u32(8, 1, out, 11 + 52);
+    numbers::put_u16(1, 1, out, 11 + 322);
 }
 
 // A block with these samples, of a COMM_TYPE and in a COMM_ORDER, at the start of out.
@@ -64,7 +89,7 @@ pub fn make_under(header: &[u8], out: &mut [u8; 512])
     requires { length header.now ≤ 11 }
 {
     let mut block = [0u8; 512];
-    make(0, &mut block);
+    make(Shape::Example, &mut block);
     put_under(header, &block, out);
 }
 

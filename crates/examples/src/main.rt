@@ -7,15 +7,18 @@ mod asks;
 mod blocks;
 mod choices;
 mod drawings;
+mod fields;
 mod judged;
 mod marks;
 mod narrowings;
 mod reached;
+mod samples;
 mod typed;
 
 fn main(rt: HostRuntime) {
     let stdout = rt.stdout();
     judged::all(stdout);
+    fields::all(stdout);
     choices::all(stdout);
     marks::all(stdout);
     reached::all(stdout);

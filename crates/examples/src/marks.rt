@@ -1,5 +1,5 @@
 // Samples at the rail and beside it, in both orders: the mark of each point, 0 or 1, and how many a fill counts.
-use crate::asks;
+use crate::samples;
 use std::io::Stdout;
 
 pub fn all(stdout: Stdout) {
@@ -20,20 +20,20 @@ pub fn all(stdout: Stdout) {
 // BYTE: -128, 127, -127, 126
 fn bytes(stdout: Stdout, order: u16) {
     let samples = b"\x80\x7f\x81\x7e";
-    asks::marks(stdout, b"the mark of BYTE -128", samples, 0, order, 0);
-    asks::marks(stdout, b"the mark of BYTE 127", samples, 0, order, 1);
-    asks::marks(stdout, b"the mark of BYTE -127", samples, 0, order, 2);
-    asks::marks(stdout, b"the mark of BYTE 126", samples, 0, order, 3);
-    asks::counts(stdout, b"marks in a fill of these four", samples, 0, order);
+    samples::marks(stdout, "the mark of BYTE -128", samples, 0, order, 0);
+    samples::marks(stdout, "the mark of BYTE 127", samples, 0, order, 1);
+    samples::marks(stdout, "the mark of BYTE -127", samples, 0, order, 2);
+    samples::marks(stdout, "the mark of BYTE 126", samples, 0, order, 3);
+    samples::counts(stdout, "marks in a fill of these four", samples, 0, order);
 }
 
 // WORD: -32,768, 32,767, -32,767, 32,766, -128, 127
 fn words(stdout: Stdout, samples: &[u8; 12], order: u16) {
-    asks::marks(stdout, b"the mark of WORD -32,768", samples, 1, order, 0);
-    asks::marks(stdout, b"the mark of WORD 32,767", samples, 1, order, 1);
-    asks::marks(stdout, b"the mark of WORD -32,767", samples, 1, order, 2);
-    asks::marks(stdout, b"the mark of WORD 32,766", samples, 1, order, 3);
-    asks::marks(stdout, b"the mark of WORD -128", samples, 1, order, 4);
-    asks::marks(stdout, b"the mark of WORD 127", samples, 1, order, 5);
-    asks::counts(stdout, b"marks in a fill of these six", samples, 1, order);
+    samples::marks(stdout, "the mark of WORD -32,768", samples, 1, order, 0);
+    samples::marks(stdout, "the mark of WORD 32,767", samples, 1, order, 1);
+    samples::marks(stdout, "the mark of WORD -32,767", samples, 1, order, 2);
+    samples::marks(stdout, "the mark of WORD 32,766", samples, 1, order, 3);
+    samples::marks(stdout, "the mark of WORD -128", samples, 1, order, 4);
+    samples::marks(stdout, "the mark of WORD 127", samples, 1, order, 5);
+    samples::counts(stdout, "marks in a fill of these six", samples, 1, order);
 }

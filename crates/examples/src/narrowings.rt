@@ -1,5 +1,5 @@
 // Words narrowed to bytes, in both orders: the boundaries of refusals 19 and 13, and the high byte of each sample.
-use crate::asks;
+use crate::samples;
 use std::io::Stdout;
 
 pub fn all(stdout: Stdout) {
@@ -23,31 +23,31 @@ pub fn all(stdout: Stdout) {
 fn refused(stdout: Stdout, order: u16) {
     words(
         stdout,
-        b"WORD, the greatest gain below 2^120",
+        "WORD, the greatest gain below 2^120",
         order,
         0x7b7f_ffff,
         363,
     );
-    words(stdout, b"WORD, a gain of 2^120", order, 0x7b80_0000, 363);
-    words(stdout, b"WORD, a gain of -2^120", order, 0xfb80_0000, 363);
+    words(stdout, "WORD, a gain of 2^120", order, 0x7b80_0000, 363);
+    words(stdout, "WORD, a gain of -2^120", order, 0xfb80_0000, 363);
     words(
         stdout,
-        b"WORD, a gain of 2^120, no room",
+        "WORD, a gain of 2^120, no room",
         order,
         0x7b80_0000,
         0,
     );
-    words(stdout, b"WORD, an infinite gain", order, 0x7f80_0000, 363);
+    words(stdout, "WORD, an infinite gain", order, 0x7f80_0000, 363);
     words(
         stdout,
-        b"WORD, one byte less than the narrowed block has",
+        "WORD, one byte less than the narrowed block has",
         order,
         0x3f00_0000,
         362,
     );
     words(
         stdout,
-        b"WORD, the bytes that the narrowed block has",
+        "WORD, the bytes that the narrowed block has",
         order,
         0x3f00_0000,
         363,
@@ -55,26 +55,26 @@ fn refused(stdout: Stdout, order: u16) {
 }
 
 // A WORD block of six samples: 346 + 6 bytes behind the header
-fn words(stdout: Stdout, name: &[u8], order: u16, gain: u32, room: usize) {
+fn words(stdout: Stdout, name: &str, order: u16, gain: u32, room: usize) {
     let samples = b"\x00\x00\x00\x00\x00\x00\x00\x00\x00\x00\x00\x00";
-    asks::narrows(stdout, name, samples, 1, order, gain, room);
+    samples::narrows(stdout, name, samples, 1, order, gain, room);
 }
 
 // A BYTE block: its gain is not asked for
 fn bytes(stdout: Stdout, order: u16) {
     let samples = b"\x80\x7f\x00\xff";
-    asks::narrows(
+    samples::narrows(
         stdout,
-        b"BYTE, a gain of 2^120",
+        "BYTE, a gain of 2^120",
         samples,
         0,
         order,
         0x7b80_0000,
         361,
     );
-    asks::narrows(
+    samples::narrows(
         stdout,
-        b"BYTE, one byte less than the block has",
+        "BYTE, one byte less than the block has",
         samples,
         0,
         order,
@@ -85,10 +85,10 @@ fn bytes(stdout: Stdout, order: u16) {
 
 // WORD: -1, -256, -257, -32,768, 255, 256
 fn floors(stdout: Stdout, samples: &[u8; 12], order: u16) {
-    asks::floors(stdout, b"WORD -1 becomes -1", samples, order, 0, 255);
-    asks::floors(stdout, b"WORD -256 becomes -1", samples, order, 1, 255);
-    asks::floors(stdout, b"WORD -257 becomes -2", samples, order, 2, 254);
-    asks::floors(stdout, b"WORD -32,768 becomes -128", samples, order, 3, 128);
-    asks::floors(stdout, b"WORD 255 becomes 0", samples, order, 4, 0);
-    asks::floors(stdout, b"WORD 256 becomes 1", samples, order, 5, 1);
+    samples::floors(stdout, "WORD -1 becomes -1", samples, order, 0, 255);
+    samples::floors(stdout, "WORD -256 becomes -1", samples, order, 1, 255);
+    samples::floors(stdout, "WORD -257 becomes -2", samples, order, 2, 254);
+    samples::floors(stdout, "WORD -32,768 becomes -128", samples, order, 3, 128);
+    samples::floors(stdout, "WORD 255 becomes 0", samples, order, 4, 0);
+    samples::floors(stdout, "WORD 256 becomes 1", samples, order, 5, 1);
 }

@@ -1,52 +1,42 @@
 -- The pairs as the loop takes them, one after another: what comes of those that are left, with the values of those before them (`going_on`). No pair (`step_none`), one that stands twice
 -- (`step_twice`), the last (`step_end`), something else behind it (`step_stop`), or more (`step_more`). From the start it is what the pairs say (`from_start`).
 use mathlib.Core.Path.{◌≡◌, refl, sym, ap, ap₂, ◌∙◌, subst}
-use Prim.Native.Nat.{ℕ, suc, ◌+◌, ◌-◌, ◌%◌, ◌≤◌, ◌<◌}
-use native.Mathlib.Nat.{mod-eq_of_lt}
+use Prim.Native.Nat.{ℕ, suc, ◌+◌, ◌-◌, ◌≤◌, ◌<◌}
 use native.Mathlib.Numerals.{add-one}
 use native.Mathlib.Omega.{arith}
 use mathlib.Core.Bool.{Bool, true, false, cond, not, ◌&&◌, ◌||◌}
 use mathlib.Core.List.{List, [], ◌∷◌}
-use mathlib.Core.Option.{Option, none, some}
+use mathlib.Core.Option.{Option as Maybe, none, some}
 use lib.ListN.{length, get_or, drop, set, length-set, length-append, length-drop, drop_of_length-le}
 use lib.Seq.{drop-cons, drop-drop, get_or-set_same, get_or-set_other}
 use lib.Dec.{eqb}
 use borrow.Author.Tests.{eqb-true, eqb-false, eq-eqb, ne_eqb}
+use Rattle.std.specs.Prelude.{Option, Some, None, is_some, unwrap_or}
 use Rattle.rules.specs.Cut as rules
 use Rattle.numbers.proofs.Bools.{and_end, and_false}
 use Rattle.digits.specs.Digits.{value_of}
+use Rattle.cuts.specs.declared.Setup.{Setup}
 use Rattle.cuts.specs.Cuts.{setup_of}
-use Rattle.lines.specs.Grammar.{Key, SP, NP, FP, SN, nth, Pair, Values, number_of, numbers_of, comma, pair_text}
+use Rattle.lines.specs.Grammar.{Key, SP, NP, FP, SN, nth, Pair, number_of, numbers_of, comma, pair_text}
 use Rattle.lines.specs.Reader.{given, taken?, once?, pair_at, before, behind, pairs_by, pairs_at}
 use Rattle.lines.proofs.Pairs.{pair-sound, length-pair}
-use Rattle.lines.proofs.Reading.{pairs-sound}
+use Rattle.setups.proofs.Starts.{eqb_turned}
 use Rattle.setups.specs.Setups.{found_as, numbers_in, pairs_as}
-use Rattle.setups.specs.declared.Reading.{Reading}
-use Rattle.setups.specs.declared.Reading.TheVariants.{Taken, Text}
 use Rattle.setups.specs.declared.reads.Found.{Found}
 
-abbrev pub missing : ℕ
-missing = 4294967296
-
-abbrev pub free : List ℕ → ℕ → Bool
-free vs k = eqb (get_or vs k 0) missing
+abbrev pub free : List (Option ℕ) → ℕ → Bool
+free vs k = not (is_some (get_or vs k None))
 
 -- the pairs added to four values, one after another
-abbrev pub added : List ℕ → List Pair → Reading
-added vs [] = Taken (setup_of (numbers_in vs))
-added vs (p ∷ ps) = cond (free vs (nth p.key)) (added (set vs (nth p.key) (value_of p.digits)) ps) Text
+abbrev pub added : List (Option ℕ) → List Pair → Option Setup
+added vs [] = Some (setup_of (numbers_in vs))
+added vs (p ∷ ps) = cond (free vs (nth p.key)) (added (set vs (nth p.key) (Some (value_of p.digits))) ps) None
 
-abbrev pub going_on : List ℕ → Option (List Pair) → Reading
-going_on vs none = Text
+abbrev pub going_on : List (Option ℕ) → Maybe (List Pair) → Option Setup
+going_on vs none = None
 going_on vs (some ps) = added vs ps
 
 -- ---- a turn of the loop
-
-no_nth : (k : Key) → nth k ≡ 4 → ⊥
-no_nth SP e = omega arith
-no_nth NP e = omega arith
-no_nth FP e = omega arith
-no_nth SN e = omega arith
 
 below_4 : (k : Key) → nth k < 4
 below_4 SP = omega arith
@@ -54,16 +44,16 @@ below_4 NP = omega arith
 below_4 FP = omega arith
 below_4 SN = omega arith
 
-going_before : (vs : List ℕ) (p : Pair) (o : Option (List Pair)) → going_on vs (before p o) ≡ cond (free vs (nth p.key)) (going_on (set vs (nth p.key) (value_of p.digits)) o) Text
-going_before vs p none = sym (go (free vs (nth p.key)))
+going_before : (vs : List (Option ℕ)) (p : Pair) (o : Maybe (List Pair)) → going_on vs (before p o) ≡ cond (free vs (nth p.key)) (going_on (set vs (nth p.key) (Some (value_of p.digits))) o) None
+going_before vs p none = sym (go (free vs (nth p.key)) None)
   where
-    go : (b : Bool) → cond b Text Text ≡ Text
-    go true = refl
-    go false = refl
+    go : (b : Bool) (n : Option Setup) → cond b n n ≡ n
+    go true n = refl
+    go false n = refl
 going_before vs p (some ps) = refl
 
-module _ (line : List ℕ) (at n : ℕ) (vs : List ℕ) where
-  abbrev Here : Option Pair → Reading
+module _ (line : List ℕ) (at n : ℕ) (vs : List (Option ℕ)) where
+  abbrev Here : Maybe Pair → Option Setup
   Here o = going_on vs (pairs_by (pairs_at n) (drop at line) o)
 
   -- what stands behind a pair that was found
@@ -83,130 +73,126 @@ module _ (line : List ℕ) (at n : ℕ) (vs : List ℕ) where
         ∙ ap (λ (k : ℕ). going_on vs (given (eqb (get_or line next 0) comma) (before p (pairs_at n (drop k line))))) (sym (add-one next))
 
     -- the key was taken: whatever stands behind
-    here_twice : (get_or vs (nth p.key) 0 ≡ missing → ⊥) → Here (some p) ≡ Text
+    here_twice : is_some (get_or vs (nth p.key) None) ≡ true → Here (some p) ≡ None
     here_twice h = go (drop (3 + length p.digits) (drop at line))
       where
         not_free : free vs (nth p.key) ≡ false
-        not_free = ne_eqb (get_or vs (nth p.key) 0) missing h
+        not_free = ap not h
 
-        two : (b : Bool) (o : Option (List Pair)) → going_on vs (given b (before p o)) ≡ Text
-        two true o = going_before vs p o ∙ ap (λ (f : Bool). cond f (going_on (set vs (nth p.key) (value_of p.digits)) o) Text) not_free
+        two : (b : Bool) (o : Maybe (List Pair)) → going_on vs (given b (before p o)) ≡ None
+        two true o = going_before vs p o ∙ ap (λ (f : Bool). cond f (going_on (set vs (nth p.key) (Some (value_of p.digits))) o) None) not_free
         two false o = refl
 
-        go : (u : List ℕ) → going_on vs (behind (pairs_at n) p u) ≡ Text
-        go [] = ap (λ (f : Bool). cond f (Taken (setup_of (numbers_in (set vs (nth p.key) (value_of p.digits))))) Text) not_free
+        go : (u : List ℕ) → going_on vs (behind (pairs_at n) p u) ≡ None
+        go [] = ap (λ (f : Bool). cond f (Some (setup_of (numbers_in (set vs (nth p.key) (Some (value_of p.digits)))))) None) not_free
         go (b ∷ u) = two (eqb b comma) (pairs_at n u)
 
 -- ---- the same of what the code found there, with `left` pairs to go
 
-module _ (line : List ℕ) (at left : ℕ) (vs : List ℕ) (r : Found) (e : r ≡ found_as at (pair_at (drop at line))) (some_left : 0 < left) where
-  abbrev Ahead : Reading
+module _ (line : List ℕ) (at left : ℕ) (vs : List (Option ℕ)) (r : Option Found) (e : r ≡ found_as at (pair_at (drop at line))) (some_left : 0 < left) where
+  abbrev Ahead : Option Setup
   Ahead = going_on vs (pairs_at left (drop at line))
 
   -- of what may stand there, each case
-  by_case : (P : Found → Reading → Type 0) → P (found_as at none) Text
+  by_case : (P : Option Found → Option Setup → Type 0) → P None None
       → ((p : Pair) → pair_at (drop at line) ≡ some p → P (found_as at (some p)) (Here line at (left - 1) vs (some p))) → P r Ahead
   unfolding pairs_at
   by_case P nothing one =
       let n : left ≡ suc (left - 1) = omega arith in
-      subst (λ (k : ℕ). P r (going_on vs (pairs_at k (drop at line)))) (sym n) (subst (λ (x : Found). P x (Here line at (left - 1) vs (pair_at (drop at line)))) (sym e) (go (pair_at (drop at line)) refl))
+      subst (λ (k : ℕ). P r (going_on vs (pairs_at k (drop at line)))) (sym n) (subst (λ (x : Option Found). P x (Here line at (left - 1) vs (pair_at (drop at line)))) (sym e) (go (pair_at (drop at line)) refl))
     where
-      go : (o : Option Pair) → pair_at (drop at line) ≡ o → P (found_as at o) (Here line at (left - 1) vs o)
+      go : (o : Maybe Pair) → pair_at (drop at line) ≡ o → P (found_as at o) (Here line at (left - 1) vs o)
       go none q = nothing
       go (some p) q = one p q
 
-  pub step_none : r.key ≡ 4 → Text ≡ Ahead
-  step_none = by_case (λ x a. x.key ≡ 4 → Text ≡ a) (λ k. refl) (λ p q k. absurd (no_nth p.key k))
+  pub step_none : r ≡ None → None ≡ Ahead
+  step_none = by_case (λ x a. x ≡ None → None ≡ a) (λ k. refl) (λ p q k. cc)
 
-  module _ (there : r.key ≡ 4 → ⊥) where
+  module _ (f : Found) (there : r ≡ Some f) where
+    -- of the pair that was found
+    of_found : (P : Found → Option Setup → Type 0)
+        → ((p : Pair) → pair_at (drop at line) ≡ some p → P (record { key = nth p.key; value = value_of p.digits; next = at + 3 + length p.digits }) (Here line at (left - 1) vs (some p))) → P f Ahead
+    of_found P one =
+        by_case (λ x a. x ≡ Some f → P f a) (λ k. cc)
+        (λ p q k.
+        let z : record { key = nth p.key; value = value_of p.digits; next = at + 3 + length p.digits } ≡ f = cc in
+        subst (λ (x : Found). P x (Here line at (left - 1) vs (some p))) z (one p q))
+        there
+
     -- its key is one of the four, and it ends within the line
-    pub found_within : at ≤ length line → (r.key < 4) × (r.next ≤ length line)
+    pub found_within : at ≤ length line → (f.key < 4) × (f.next ≤ length line)
     found_within h =
-        by_case (λ x a. (x.key ≡ 4 → ⊥) → (x.key < 4) × (x.next ≤ length line)) (λ k. absurd (k refl))
-        (λ p q k. (
+        of_found (λ x a. (x.key < 4) × (x.next ≤ length line))
+        (λ p q. (
           below_4 p.key,
           omega (arith, ap length (pair-sound (drop at line) p q).1, length-append (pair_text p) (drop (3 + length p.digits) (drop at line)), length-pair p, length-drop at line, h),
         ))
-        there
 
-    pub step_twice : (get_or vs r.key 0 ≡ missing → ⊥) → Text ≡ Ahead
-    step_twice = by_case (λ x a. (x.key ≡ 4 → ⊥) → (get_or vs x.key 0 ≡ missing → ⊥) → Text ≡ a) (λ k. absurd (k refl)) (λ p q k h. sym (here_twice line at (left - 1) vs p h)) there
+    pub step_twice : is_some (get_or vs f.key None) ≡ true → None ≡ Ahead
+    step_twice = of_found (λ x a. is_some (get_or vs x.key None) ≡ true → None ≡ a) (λ p q h. sym (here_twice line at (left - 1) vs p h))
 
-    pub step_end : get_or vs r.key 0 ≡ missing → r.next ≡ length line → Taken (setup_of (numbers_in (set vs r.key r.value))) ≡ Ahead
+    pub step_end : is_some (get_or vs f.key None) ≡ false → f.next ≡ length line → Some (setup_of (numbers_in (set vs f.key (Some f.value)))) ≡ Ahead
     step_end =
-        by_case (λ x a. (x.key ≡ 4 → ⊥) → get_or vs x.key 0 ≡ missing → x.next ≡ length line → Taken (setup_of (numbers_in (set vs x.key x.value))) ≡ a) (λ k. absurd (k refl))
-        (λ p q k f l.
-        sym (here_end line at (left - 1) vs p l ∙ ap (λ (b : Bool). cond b (Taken (setup_of (numbers_in (set vs (nth p.key) (value_of p.digits))))) Text) (eq-eqb (get_or vs (nth p.key) 0) missing f)))
-        there
+        of_found (λ x a. is_some (get_or vs x.key None) ≡ false → x.next ≡ length line → Some (setup_of (numbers_in (set vs x.key (Some x.value)))) ≡ a)
+        (λ p q h l.
+        sym (here_end line at (left - 1) vs p l ∙ ap (λ (b : Bool). cond (not b) (Some (setup_of (numbers_in (set vs (nth p.key) (Some (value_of p.digits)))))) None) h))
 
-    module _ (more : r.next < length line) where
-      pub step_stop : (get_or line r.next 0 ≡ comma → ⊥) → Text ≡ Ahead
+    module _ (more : f.next < length line) where
+      pub step_stop : (get_or line f.next 0 ≡ comma → ⊥) → None ≡ Ahead
       step_stop =
-          by_case (λ x a. (x.key ≡ 4 → ⊥) → x.next < length line → (get_or line x.next 0 ≡ comma → ⊥) → Text ≡ a) (λ k. absurd (k refl))
-          (λ p q k l n.
+          of_found (λ x a. x.next < length line → (get_or line x.next 0 ≡ comma → ⊥) → None ≡ a)
+          (λ p q l n.
           sym (here_more line at (left - 1) vs p l ∙ ap (λ (b : Bool). going_on vs (given b (before p (pairs_at (left - 1) (drop (at + 3 + length p.digits + 1) line))))) (ne_eqb (get_or line (at + 3 + length p.digits) 0) comma n)))
-          there more
+          more
 
-      pub step_more : get_or vs r.key 0 ≡ missing → get_or line r.next 0 ≡ comma → going_on (set vs r.key r.value) (pairs_at (left - 1) (drop (r.next + 1) line)) ≡ Ahead
+      pub step_more : is_some (get_or vs f.key None) ≡ false → get_or line f.next 0 ≡ comma → going_on (set vs f.key (Some f.value)) (pairs_at (left - 1) (drop (f.next + 1) line)) ≡ Ahead
       step_more =
-          by_case (λ x a. (x.key ≡ 4 → ⊥) → x.next < length line → get_or vs x.key 0 ≡ missing → get_or line x.next 0 ≡ comma → going_on (set vs x.key x.value) (pairs_at (left - 1) (drop (x.next + 1) line)) ≡ a) (λ k. absurd (k refl))
-          (λ p q k l f c.
-          let u : Option (List Pair) = pairs_at (left - 1) (drop (at + 3 + length p.digits + 1) line) in
+          of_found (λ x a. x.next < length line → is_some (get_or vs x.key None) ≡ false → get_or line x.next 0 ≡ comma → going_on (set vs x.key (Some x.value)) (pairs_at (left - 1) (drop (x.next + 1) line)) ≡ a)
+          (λ p q l h c.
+          let u : Maybe (List Pair) = pairs_at (left - 1) (drop (at + 3 + length p.digits + 1) line) in
           sym (here_more line at (left - 1) vs p l
           ∙ ap (λ (b : Bool). going_on vs (given b (before p u))) (eq-eqb (get_or line (at + 3 + length p.digits) 0) comma c)
           ∙ going_before vs p u
-          ∙ ap (λ (b : Bool). cond b (going_on (set vs (nth p.key) (value_of p.digits)) u) Text) (eq-eqb (get_or vs (nth p.key) 0) missing f)))
-          there more
+          ∙ ap (λ (b : Bool). cond (not b) (going_on (set vs (nth p.key) (Some (value_of p.digits))) u) None) h))
+          more
 
 -- ---- from the start: what the pairs say
 
-abbrev start : List ℕ
-start = missing ∷ missing ∷ missing ∷ missing ∷ []
+abbrev start : List (Option ℕ)
+start = None ∷ None ∷ None ∷ None ∷ []
 
 -- no key of the pairs was taken
-abbrev all_free : List ℕ → List Pair → Bool
+abbrev all_free : List (Option ℕ) → List Pair → Bool
 all_free vs [] = true
 all_free vs (p ∷ ps) = free vs (nth p.key) && all_free vs ps
 
 -- a key's number, of those before or of the pairs
-abbrev number_by : List ℕ → List Pair → Key → ℕ
-number_by vs ps k = cond (free vs (nth k)) (number_of k ps) (get_or vs (nth k) 0 % missing)
+abbrev number_by : List (Option ℕ) → List Pair → Key → ℕ
+number_by vs ps k = cond (free vs (nth k)) (number_of k ps) (unwrap_or (get_or vs (nth k) None) 0)
 
-abbrev numbers_by : List ℕ → List Pair → rules.Setup
+abbrev numbers_by : List (Option ℕ) → List Pair → rules.Setup
 numbers_by vs ps = record { sp = number_by vs ps SP; np = number_by vs ps NP; fp = number_by vs ps FP; sn = number_by vs ps SN }
 
-eqb_turned : (x y : ℕ) → eqb x y ≡ eqb y x
-eqb_turned x y = go (eqb x y) refl (eqb y x) refl
-  where
-    go : (a : Bool) → eqb x y ≡ a → (b : Bool) → eqb y x ≡ b → a ≡ b
-    go true e true f = refl
-    go true e false f = absurd (eqb-false y x f (sym (eqb-true x y e)))
-    go false e true f = absurd (eqb-false x y e (sym (eqb-true y x f)))
-    go false e false f = refl
-
 -- one more value, at a key that was free
-module _ (vs : List ℕ) (four : length vs ≡ 4) (j : Key) (v : ℕ) (small : v < missing) where
-  abbrev more : List ℕ
-  more = set vs (nth j) v
+module _ (vs : List (Option ℕ)) (four : length vs ≡ 4) (j : Key) (v : ℕ) where
+  abbrev more : List (Option ℕ)
+  more = set vs (nth j) (Some v)
 
-  value-at : (k : Key) → get_or more (nth k) 0 ≡ cond (eqb (nth k) (nth j)) v (get_or vs (nth k) 0)
+  value-at : (k : Key) → get_or more (nth k) None ≡ cond (eqb (nth k) (nth j)) (Some v) (get_or vs (nth k) None)
   value-at k = go (eqb (nth k) (nth j)) refl
     where
-      go : (b : Bool) → eqb (nth k) (nth j) ≡ b → get_or more (nth k) 0 ≡ cond b v (get_or vs (nth k) 0)
-      go true e = ap (λ (i : ℕ). get_or more i 0) (eqb-true (nth k) (nth j) e) ∙ get_or-set_same vs (nth j) v 0 (omega (arith, below_4 j, four))
-      go false e = get_or-set_other vs (nth j) (nth k) v 0 (eqb-false (nth k) (nth j) e)
-
-  v_there : eqb v missing ≡ false
-  v_there = ne_eqb v missing (λ e. omega (arith, e, small))
+      go : (b : Bool) → eqb (nth k) (nth j) ≡ b → get_or more (nth k) None ≡ cond b (Some v) (get_or vs (nth k) None)
+      go true e = ap (λ (i : ℕ). get_or more i None) (eqb-true (nth k) (nth j) e) ∙ get_or-set_same vs (nth j) (Some v) None (omega (arith, below_4 j, four))
+      go false e = get_or-set_other vs (nth j) (nth k) (Some v) None (eqb-false (nth k) (nth j) e)
 
   free_more : (ps : List Pair) → all_free more ps ≡ not (taken? j ps) && all_free vs ps
   free_more [] = refl
   free_more (p ∷ ps) =
-      ap₂ {C = Bool} (λ x y. eqb x missing && y) (value-at p.key ∙ ap (λ (b : Bool). cond b v (get_or vs (nth p.key) 0)) (eqb_turned (nth p.key) (nth j))) (free_more ps)
+      ap₂ {C = Bool} (λ x y. not (is_some x) && y) (value-at p.key ∙ ap (λ (b : Bool). cond b (Some v) (get_or vs (nth p.key) None)) (eqb_turned (nth p.key) (nth j))) (free_more ps)
       ∙ go (eqb (nth j) (nth p.key)) (free vs (nth p.key)) (taken? j ps) (all_free vs ps) refl
     where
-      go : (a f t r : Bool) → free vs (nth p.key) ≡ f → eqb (cond a v (get_or vs (nth p.key) 0)) missing && (not t && r) ≡ not (a || t) && (f && r)
-      go true f t r e = ap (λ (b : Bool). b && (not t && r)) v_there
+      go : (a f t r : Bool) → free vs (nth p.key) ≡ f → not (is_some (cond a (Some v) (get_or vs (nth p.key) None))) && (not t && r) ≡ not (a || t) && (f && r)
+      go true f t r e = refl
       go false f t r e = ap (λ (b : Bool). b && (not t && r)) e ∙ swap f (not t) r
         where
           swap : (x y z : Bool) → x && (y && z) ≡ y && (x && z)
@@ -215,33 +201,28 @@ module _ (vs : List ℕ) (four : length vs ≡ 4) (j : Key) (v : ℕ) (small : v
 
   module _ (ds : List ℕ) (is : value_of ds ≡ v) (here : free vs (nth j) ≡ true) (ps : List Pair) where
     number_more : (k : Key) → number_by more ps k ≡ number_by vs (record { key = j; digits = ds } ∷ ps) k
-    number_more k = ap (λ (x : ℕ). cond (eqb x missing) (number_of k ps) (x % missing)) (value-at k) ∙ go (eqb (nth k) (nth j)) refl
+    number_more k = ap (λ (x : Option ℕ). cond (not (is_some x)) (number_of k ps) (unwrap_or x 0)) (value-at k) ∙ go (eqb (nth k) (nth j)) refl
       where
         go : (b : Bool) → eqb (nth k) (nth j) ≡ b
-            → cond (eqb (cond b v (get_or vs (nth k) 0)) missing) (number_of k ps) (cond b v (get_or vs (nth k) 0) % missing) ≡ cond (free vs (nth k)) (cond b (value_of ds) (number_of k ps)) (get_or vs (nth k) 0 % missing)
+            → cond (not (is_some (cond b (Some v) (get_or vs (nth k) None)))) (number_of k ps) (unwrap_or (cond b (Some v) (get_or vs (nth k) None)) 0)
+            ≡ cond (free vs (nth k)) (cond b (value_of ds) (number_of k ps)) (unwrap_or (get_or vs (nth k) None) 0)
         go true e =
-            ap (λ (b : Bool). cond b (number_of k ps) (v % missing)) v_there ∙ mod-eq_of_lt small ∙ sym is
-            ∙ sym (ap (λ (b : Bool). cond b (value_of ds) (get_or vs (nth k) 0 % missing)) (ap (free vs) (eqb-true (nth k) (nth j) e) ∙ here))
+            sym is ∙ sym (ap (λ (b : Bool). cond b (value_of ds) (unwrap_or (get_or vs (nth k) None) 0)) (ap (free vs) (eqb-true (nth k) (nth j) e) ∙ here))
         go false e = refl
 
     numbers_more : numbers_by more ps ≡ numbers_by vs (record { key = j; digits = ds } ∷ ps)
     numbers_more = λ i. record { sp = number_more SP i; np = number_more NP i; fp = number_more FP i; sn = number_more SN i }
 
 -- a missing value counts as 0
-or_zero : (x : ℕ) → x % missing ≡ cond (eqb x missing) 0 (x % missing)
-or_zero x = go (eqb x missing) refl
-  where
-    go : (b : Bool) → eqb x missing ≡ b → x % missing ≡ cond b 0 (x % missing)
-    go true e = ap (λ (n : ℕ). n % missing) (eqb-true x missing e)
-    go false e = refl
+or_zero : (x : Option ℕ) → unwrap_or x 0 ≡ cond (not (is_some x)) 0 (unwrap_or x 0)
+or_zero None = refl
+or_zero (Some n) = refl
 
-added_is : (vs : List ℕ) → length vs ≡ 4 → (ps : List Pair) → Values ps → added vs ps ≡ cond (once? ps && all_free vs ps) (Taken (setup_of (numbers_by vs ps))) Text
-added_is vs four [] v = λ i. Taken (setup_of (record { sp = or_zero (get_or vs 0 0) i; np = or_zero (get_or vs 1 0) i; fp = or_zero (get_or vs 2 0) i; sn = or_zero (get_or vs 3 0) i }))
-added_is vs four (p ∷ ps) v = go (free vs (nth p.key)) refl (added_is (set vs (nth p.key) (value_of p.digits)) (length-set vs (nth p.key) (value_of p.digits) ∙ four) ps v.1)
+added_is : (vs : List (Option ℕ)) → length vs ≡ 4 → (ps : List Pair) → added vs ps ≡ cond (once? ps && all_free vs ps) (Some (setup_of (numbers_by vs ps))) None
+added_is vs four [] = λ i. Some (setup_of (record { sp = or_zero (get_or vs 0 None) i; np = or_zero (get_or vs 1 None) i; fp = or_zero (get_or vs 2 None) i; sn = or_zero (get_or vs 3 None) i }))
+added_is vs four (p ∷ ps) =
+    go (free vs (nth p.key)) refl (added_is (set vs (nth p.key) (Some (value_of p.digits))) (length-set vs (nth p.key) (Some (value_of p.digits)) ∙ four) ps)
   where
-    small : value_of p.digits < missing
-    small = omega (arith, v.0.fits)
-
     order : (o t r : Bool) → o && (not t && r) ≡ (not t && o) && r
     order true true r = refl
     order true false r = refl
@@ -249,18 +230,18 @@ added_is vs four (p ∷ ps) v = go (free vs (nth p.key)) refl (added_is (set vs 
     order false false r = refl
 
     go : (f : Bool) → free vs (nth p.key) ≡ f
-        → (added (set vs (nth p.key) (value_of p.digits)) ps ≡ cond (once? ps && all_free (set vs (nth p.key) (value_of p.digits)) ps) (Taken (setup_of (numbers_by (set vs (nth p.key) (value_of p.digits)) ps))) Text)
-        → cond f (added (set vs (nth p.key) (value_of p.digits)) ps) Text ≡ cond ((not (taken? p.key ps) && once? ps) && (f && all_free vs ps)) (Taken (setup_of (numbers_by vs (p ∷ ps)))) Text
-    go false e ih = sym (ap (λ (b : Bool). cond b (Taken (setup_of (numbers_by vs (p ∷ ps)))) Text) (and_false (not (taken? p.key ps) && once? ps)))
+        → (added (set vs (nth p.key) (Some (value_of p.digits))) ps ≡ cond (once? ps && all_free (set vs (nth p.key) (Some (value_of p.digits))) ps) (Some (setup_of (numbers_by (set vs (nth p.key) (Some (value_of p.digits))) ps))) None)
+        → cond f (added (set vs (nth p.key) (Some (value_of p.digits))) ps) None ≡ cond ((not (taken? p.key ps) && once? ps) && (f && all_free vs ps)) (Some (setup_of (numbers_by vs (p ∷ ps)))) None
+    go false e ih = sym (ap (λ (b : Bool). cond b (Some (setup_of (numbers_by vs (p ∷ ps)))) None) (and_false (not (taken? p.key ps) && once? ps)))
     go true e ih =
         ih
-        ∙ ap₂ {C = Reading} (λ b c. cond b (Taken (setup_of c)) Text) (ap (λ (b : Bool). once? ps && b) (free_more vs four p.key (value_of p.digits) small ps) ∙ order (once? ps) (taken? p.key ps) (all_free vs ps))
-        (numbers_more vs four p.key (value_of p.digits) small p.digits refl e ps)
+        ∙ ap₂ {C = Option Setup} (λ b c. cond b (Some (setup_of c)) None) (ap (λ (b : Bool). once? ps && b) (free_more vs four p.key (value_of p.digits) ps) ∙ order (once? ps) (taken? p.key ps) (all_free vs ps))
+        (numbers_more vs four p.key (value_of p.digits) p.digits refl e ps)
 
 -- the pairs added to none are what they say
 pub from_start : (n : ℕ) (t : List ℕ) → going_on start (pairs_at n t) ≡ pairs_as (pairs_at n t)
 unfolding numbers_of
-from_start n t = go (pairs_at n t) refl
+from_start n t = go (pairs_at n t)
   where
     all-free : (ps : List Pair) → all_free start ps ≡ true
     all-free [] = refl
@@ -272,8 +253,8 @@ from_start n t = go (pairs_at n t) refl
         one FP = refl
         one SN = refl
 
-    go : (o : Option (List Pair)) → pairs_at n t ≡ o → going_on start o ≡ pairs_as o
-    go none e = refl
-    go (some ps) e =
-        added_is start refl ps (pairs-sound n t ps e).values
-        ∙ ap (λ (b : Bool). cond b (Taken (setup_of (numbers_of ps))) Text) (ap (λ (b : Bool). once? ps && b) (all-free ps) ∙ and_end (once? ps))
+    go : (o : Maybe (List Pair)) → going_on start o ≡ pairs_as o
+    go none = refl
+    go (some ps) =
+        added_is start refl ps
+        ∙ ap (λ (b : Bool). cond b (Some (setup_of (numbers_of ps))) None) (ap (λ (b : Bool). once? ps && b) (all-free ps) ∙ and_end (once? ps))

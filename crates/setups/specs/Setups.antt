@@ -1,63 +1,63 @@
 -- What the calls on setup lines answer and leave, and what is found on the way. Definitions only.
-use Rattle.std.specs.Prelude.{ℕ, zero, suc, ◌+◌, ◌%◌, cond, List, length, get_or}
-use Rattle.std.proofs.Math.Option.{Option, none, some}
+use Rattle.std.specs.Prelude.{ℕ, zero, suc, ◌+◌, cond, List, length, get_or, Option, Some, None, unwrap_or}
+use Rattle.std.proofs.Math.Option.{Option as Maybe, none, some}
 use Rattle.rules.specs.Numbers.{splice, unless_refused}
 use Rattle.rules.specs.Cut as rules
 use Rattle.digits.specs.Digits.{places, value_of}
+use Rattle.cuts.specs.declared.Setup.{Setup}
 use Rattle.cuts.specs.Cuts.{setup_as, setup_of}
 use Rattle.lines.specs.Grammar.{Word, letters, Key, nth, Pair, numbers_of}
 use Rattle.lines.specs.Reader.{once?, read_setup, or_zeros}
 use Rattle.lines.specs.Writer.{setup_line, write_refusal}
 use Rattle.setups.specs.declared.Printed.{Printed}
-use Rattle.setups.specs.declared.Reading.{Reading}
-use Rattle.setups.specs.declared.Reading.TheVariants.{Taken, Text}
 use Rattle.setups.specs.declared.reads.Found.{Found}
 use Rattle.setups.specs.declared.writes.Widths.{Widths}
 
 -- ---- a line read
 
--- the number of each case, and its setup: zeros where the line is refused
-abbrev pub number_of : Reading → ℕ
-number_of (Taken c) = 0
-number_of Text = 15
+-- its number, and its setup: zeros where the line is refused
+abbrev pub number_of : Option Setup → ℕ
+number_of (Some c) = 0
+number_of None = 15
 
-abbrev pub setup_in : Reading → rules.Setup
-setup_in (Taken c) = setup_as c
-setup_in Text = or_zeros none
+abbrev pub setup_in : Option Setup → rules.Setup
+setup_in (Some c) = setup_as c
+setup_in None = or_zeros none
 
--- the case of what was read
-abbrev pub reading_of : Option rules.Setup → Reading
-reading_of none = Text
-reading_of (some c) = Taken (setup_of c)
+-- the answer by what was read
+abbrev pub reading_of : Maybe rules.Setup → Option Setup
+reading_of none = None
+reading_of (some c) = Some (setup_of c)
 
-unfoldable pub reading_as : List ℕ → Reading
+unfoldable pub reading_as : List ℕ → Option Setup
 reading_as t = reading_of (read_setup t)
 
 -- ---- on the way
 
--- where the pairs start: behind the word and its blank, and 0 for no word
-abbrev pub word_as : Option Word → ℕ
-word_as none = 0
-word_as (some w) = suc (length (letters w))
+-- where the pairs start: behind the word and its blank
+abbrev pub word_as : Maybe Word → Option ℕ
+word_as none = None
+word_as (some w) = Some (suc (length (letters w)))
 
--- which key it is, and 4 for none
-abbrev pub key_as : Option Key → ℕ
-key_as none = 4
-key_as (some k) = nth k
+-- which key it is
+abbrev pub key_as : Maybe Key → Option ℕ
+key_as none = None
+key_as (some k) = Some (nth k)
 
--- a pair that starts at `at`: its key, its value and where it ends; 4 and zeros for none
-abbrev pub found_as : ℕ → Option Pair → Found
-found_as at none = record { key = 4; value = 0; next = 0 }
-found_as at (some p) = record { key = nth p.key; value = value_of p.digits; next = at + 3 + length p.digits }
+-- a pair that starts at `at`: its key, its value and where it ends
+abbrev pub found_as : ℕ → Maybe Pair → Option Found
+found_as at none = None
+found_as at (some p) = Some (record { key = nth p.key; value = value_of p.digits; next = at + 3 + length p.digits })
 
--- the setup of four values, where 2 ^ 32 stands for one that is missing
-abbrev pub numbers_in : List ℕ → rules.Setup
-numbers_in vs = record { sp = get_or vs 0 0 % 4294967296; np = get_or vs 1 0 % 4294967296; fp = get_or vs 2 0 % 4294967296; sn = get_or vs 3 0 % 4294967296 }
+-- the setup of four values, a missing one as 0
+abbrev pub numbers_in : List (Option ℕ) → rules.Setup
+numbers_in vs =
+    record { sp = unwrap_or (get_or vs 0 None) 0; np = unwrap_or (get_or vs 1 None) 0; fp = unwrap_or (get_or vs 2 None) 0; sn = unwrap_or (get_or vs 3 None) 0 }
 
 -- some pairs, of which none stands twice
-abbrev pub pairs_as : Option (List Pair) → Reading
-pairs_as none = Text
-pairs_as (some ps) = cond (once? ps) (Taken (setup_of (numbers_of ps))) Text
+abbrev pub pairs_as : Maybe (List Pair) → Option Setup
+pairs_as none = None
+pairs_as (some ps) = cond (once? ps) (Some (setup_of (numbers_of ps))) None
 
 -- ---- a line written
 

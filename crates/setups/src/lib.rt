@@ -4,16 +4,8 @@
 mod reads;
 mod writes;
 
-use cuts::Setup;
 pub use reads::read;
 pub use writes::{length_of, write};
-
-// What a line says: a setup; or that it is none, which is 15.
-#[derive(Clone, Copy)]
-pub enum Reading {
-    Taken { setup: Setup },
-    Text,
-}
 
 // What the writer answers: 0 and the bytes written; or 15 and 0.
 #[derive(Clone, Copy)]

@@ -4,7 +4,7 @@ ghost use Rattle.rules.specs.Numbers.{all_bytes, splice};
 ghost use Rattle.cuts.specs.Cuts.{setup_as};
 ghost use Rattle.tessarquin.specs.Calls.{setup, setup_numbers, combined_number, combined_left};
 
-use cuts::{Combination, Setup};
+use cuts::Setup;
 
 // The setup of the one cut for the cut a, and then the cut b of what a wrote, which answered `count` as its c: SP, NP, FP and SN.
 pub fn tessarquin_combined(
@@ -34,16 +34,14 @@ pub fn tessarquin_combined(
         fp: fpb,
         sn: snb,
     };
-    match cuts::combined(a, b, count) {
-        Combination::Sparse => 12,
-        Combination::One { setup } => {
-            if answer.len() < 32 {
-                return 13;
-            }
-            put_setup(setup, answer);
-            0
-        }
+    let Some(setup) = cuts::combined(a, b, count) else {
+        return 12;
+    };
+    if answer.len() < 32 {
+        return 13;
     }
+    put_setup(setup, answer);
+    0
 }
 
 // The four numbers of a setup, at the start of out.
@@ -51,6 +49,6 @@ pub(crate) fn put_setup(c: Setup, out: &mut [u8])
     requires { 32 ≤ length out.old }
     ensures { out.new ≡ splice out.old 0 (all_bytes 0 8 (setup_numbers (setup_as c))) }
 {
-    crate::put_pair(c.sp as u64, c.np as u64, out, 0);
-    crate::put_pair(c.fp as u64, c.sn as u64, out, 16);
+    let four = [c.sp as u64, c.np as u64, c.fp as u64, c.sn as u64];
+    crate::put_numbers(four, out, 0);
 }

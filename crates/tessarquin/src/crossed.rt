@@ -20,6 +20,6 @@ pub fn tessarquin_crossing(
     if answer.len() < 16 {
         return 13;
     }
-    crate::put_pair(t.found as u64, t.point as u64, answer, 0);
+    crate::put_numbers([t.found as u64, t.point as u64], answer, 0);
     0
 }

@@ -25,12 +25,8 @@ pub fn tessarquin_strip(
         return number;
     }
     let d = strips::put_columns(block, o, array, segment, columns, least, greatest);
-    crate::put_three(
-        strips::unsigned(d.sum),
-        d.marks as u64,
-        d.peak as u64,
-        answer,
-    );
+    let three = [strips::unsigned(d.sum), d.marks as u64, d.peak as u64];
+    crate::put_numbers(three, answer, 0);
     0
 }
 
@@ -38,8 +34,5 @@ pub fn tessarquin_strip(
 fn room_for(slice: usize, answer: usize) -> usize
     ensures { result ≡ cond (ltb answer 24) 0 (slice / 8) }
 {
-    if answer < 24 {
-        return 0;
-    }
-    slice / 8
+    if answer < 24 { 0 } else { slice / 8 }
 }

@@ -15,6 +15,6 @@ pub fn tessarquin_join(parts: &[u8], out: &mut [u8], answer: &mut [u8]) -> u32
     if w.refusal != 0 {
         return w.refusal;
     }
-    crate::put_pair(w.count as u64, w.length as u64, answer, 0);
+    crate::put_numbers([w.count as u64, w.length as u64], answer, 0);
     0
 }

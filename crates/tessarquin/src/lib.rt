@@ -14,9 +14,7 @@ ghost use Rattle.std.specs.Prelude.{◌≡◌, [], ◌∷◌, ◌+◌, ◌*◌, 
 ghost use Rattle.rules.specs.Numbers.{all_bytes, splice};
 ghost use Rattle.rules.specs.Rules.{opened};
 ghost use Rattle.rules.specs.Points.{mark_count, walk_refusal};
-ghost use Rattle.rules.specs.Cut.{cut_refusal};
 ghost use Rattle.points.specs.Walks.{place_of};
-ghost use Rattle.cuts.specs.Cuts.{setup_as};
 ghost use Rattle.tessarquin.specs.Calls.{setup, open_number, open_left, point_number, point_left, value_bits, fill_bytes, fill_number, fill_left, cut_number, cut_left, cut_answer_left};
 
 use block::Opened;
@@ -65,7 +63,7 @@ pub fn tessarquin_point(
         return 13;
     }
     let mark = fills::mark_number(p.mark) as u64;
-    put_three(scale::bits(p.value), scale::bits(p.time), mark, answer);
+    put_numbers([scale::bits(p.value), scale::bits(p.time), mark], answer, 0);
     0
 }
 
@@ -102,13 +100,14 @@ pub fn tessarquin_cut(
 {
     let setup = Setup { sp, np, fp, sn };
     if answer.len() < 16 {
-        return without_room(block, setup, order);
+        // the number of a cut that has nowhere to go: never 0
+        return cuts::cut(block, setup, order, &mut []).refusal;
     }
     let w = cuts::cut(block, setup, order, out);
     if w.refusal != 0 {
         return w.refusal;
     }
-    put_pair(w.count as u64, w.length as u64, answer, 0);
+    put_numbers([w.count as u64, w.length as u64], answer, 0);
     0
 }
 
@@ -117,23 +116,14 @@ fn put_opened(o: Opened, out: &mut [u8])
     requires { 40 ≤ length out.old }
     ensures { out.new ≡ splice out.old 0 (all_bytes 0 8 (o.segments ∷ o.points ∷ o.arrays ∷ o.order ∷ o.kind ∷ [])) }
 {
-    put_five(
+    let five = [
         o.segments as u64,
         o.points as u64,
         o.arrays as u64,
         o.order as u64,
         o.kind as u64,
-        out,
-    );
-}
-
-// The number of a cut that has nowhere to go: never 0.
-fn without_room(block: &[u8], setup: Setup, order: u32) -> u32
-    ensures { result ≡ cut_refusal order (setup_as setup) block.now 0 }
-{
-    let mut nothing = [0u8; 0];
-    let w = cuts::cut(block, setup, order, &mut nothing);
-    w.refusal
+    ];
+    put_numbers(five, out, 0);
 }
 
 // The bits of the values of a walk's segment and the number of its marks, at the start of out.
@@ -165,30 +155,12 @@ fn put_values(block: &[u8], array: u32, segment: u32, place: Place, out: &mut [u
     fills::put_words(block, from, count, place.order, c, out) as u64
 }
 
-// Five numbers of eight bytes at the start of out, the high byte first.
-fn put_five(a: u64, b: u64, c: u64, d: u64, e: u64, out: &mut [u8])
-    requires { 40 ≤ length out.old }
-    ensures { out.new ≡ splice out.old 0 (all_bytes 0 8 (a ∷ b ∷ c ∷ d ∷ e ∷ [])) }
+// N numbers of eight bytes from `at`, the high byte first.
+fn put_numbers<const N: usize>(items: [u64; N], out: &mut [u8], at: usize)
+    requires { at + N * 8 ≤ length out.old }
+    ensures { out.new ≡ splice out.old at (all_bytes 0 8 items.entry) }
 {
-    put_three(a, b, c, out);
-    put_pair(d, e, out, 24);
-}
-
-// Three numbers of eight bytes at the start of out, the high byte first.
-fn put_three(a: u64, b: u64, c: u64, out: &mut [u8])
-    requires { 24 ≤ length out.old }
-    ensures { out.new ≡ splice out.old 0 (all_bytes 0 8 (a ∷ b ∷ c ∷ [])) }
-{
-    put_pair(a, b, out, 0);
-    numbers::put_u64(c, 0, out, 16);
-}
-
-// Two numbers of eight bytes from `at`, the high byte first.
-fn put_pair(a: u64, b: u64, out: &mut [u8], at: usize)
-    requires { at + 16 ≤ length out.old }
-    ensures { out.new ≡ splice out.old at (all_bytes 0 8 (a ∷ b ∷ [])) }
-{
-    let next = at + 8;
-    numbers::put_u64(a, 0, out, at);
-    numbers::put_u64(b, 0, out, next);
+    for i in 0..N {
+        numbers::put_u64(items[i], 0, out, at + i * 8);
+    }
 }

@@ -1,6 +1,5 @@
 // A block narrowed to bytes, for a host in C.
 ghost use Rattle.std.specs.Prelude.{◌≡◌, length};
-ghost use Rattle.narrowing.specs.Narrow.{narrow_refusal};
 ghost use Rattle.tessarquin.specs.Calls.{narrow_number, narrow_left, narrow_answer_left};
 
 // Narrows a block of words to bytes: the block to out, its length to the answer.
@@ -10,7 +9,8 @@ pub fn tessarquin_narrow(block: &[u8], out: &mut [u8], answer: &mut [u8]) -> u32
     ensures answer_after { answer.new ≡ narrow_answer_left block.now (length out.old) answer.old }
 {
     if answer.len() < 8 {
-        return narrow_nowhere(block);
+        // the number of a narrowing that has nowhere to go: never 0
+        return narrows::narrow(block, &mut []).refusal;
     }
     let w = narrows::narrow(block, out);
     if w.refusal != 0 {
@@ -18,13 +18,4 @@ pub fn tessarquin_narrow(block: &[u8], out: &mut [u8], answer: &mut [u8]) -> u32
     }
     numbers::put_u64(w.length as u64, 0, answer, 0);
     0
-}
-
-// The number of a narrowing that has nowhere to go: never 0.
-fn narrow_nowhere(block: &[u8]) -> u32
-    ensures { result ≡ narrow_refusal block.now 0 }
-{
-    let mut nothing = [0u8; 0];
-    let w = narrows::narrow(block, &mut nothing);
-    w.refusal
 }

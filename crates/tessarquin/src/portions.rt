@@ -34,7 +34,7 @@ pub fn tessarquin_user_text(block: &[u8], answer: &mut [u8]) -> u32
         return 13;
     }
     let s = block::text_span(block, o);
-    crate::put_pair(s.from as u64, (s.to - s.from) as u64, answer, 0);
+    crate::put_numbers([s.from as u64, (s.to - s.from) as u64], answer, 0);
     0
 }
 
@@ -52,10 +52,10 @@ pub fn tessarquin_label(block: &[u8], fallback: &[u8], answer: &mut [u8]) -> u32
     }
     let s = block::label_span(block, o);
     if s.from == s.to {
-        crate::put_three(1, 0, fallback.len() as u64, answer);
+        crate::put_numbers([1, 0, fallback.len() as u64], answer, 0);
         return 0;
     }
-    crate::put_three(0, s.from as u64, (s.to - s.from) as u64, answer);
+    crate::put_numbers([0, s.from as u64, (s.to - s.from) as u64], answer, 0);
     0
 }
 
@@ -68,27 +68,25 @@ fn put_layout(o: Opened, out: &mut [u8])
     let l = o.layout;
     let lengths = l.lengths;
     let starts = l.starts;
-    crate::put_five(
+    let five = [
         o.start as u64,
         o.first as u64,
         o.sparsing as u64,
         o.index as u64,
         o.subarrays as u64,
-        out,
-    );
+    ];
+    crate::put_numbers(five, out, 0);
     put_ten(lengths, out, 40);
     put_ten(starts, out, 120);
 }
 
 // Ten numbers of eight bytes from `at`, the high byte first.
+// They are held in four bytes each: for `put_numbers` they would be copied to eight bytes each first.
 fn put_ten(ten: [u32; 10], out: &mut [u8], at: usize)
     requires { at + 80 ≤ length out.old }
     ensures { out.new ≡ splice out.old at (all_bytes 0 8 ten) }
 {
-    let mut i: usize = 0;
-    while i < 10 {
-        let n = ten[i];
-        numbers::put_u64(n as u64, 0, out, at + i * 8);
-        i += 1;
+    for i in 0..10 {
+        numbers::put_u64(ten[i] as u64, 0, out, at + i * 8);
     }
 }

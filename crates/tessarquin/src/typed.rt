@@ -7,23 +7,20 @@ ghost use Rattle.tessarquin.specs.Calls.{setup, setup_read_number, setup_read_le
 
 use crate::combining;
 use cuts::Setup;
-use setups::Reading;
 
 // Reads a setup line: SP, NP, FP and SN.
 pub fn tessarquin_setup_read(line: &[u8], answer: &mut [u8]) -> u32
     ensures value { result ≡ setup_read_number line.now (length answer.old) }
     ensures answer_after { answer.new ≡ setup_read_left line.now answer.old }
 {
-    match setups::read(line) {
-        Reading::Text => 15,
-        Reading::Taken { setup } => {
-            if answer.len() < 32 {
-                return 13;
-            }
-            combining::put_setup(setup, answer);
-            0
-        }
+    let Some(setup) = setups::read(line) else {
+        return 15;
+    };
+    if answer.len() < 32 {
+        return 13;
     }
+    combining::put_setup(setup, answer);
+    0
 }
 
 // Writes the normal line of a setup: the line to out, its length to the answer.
@@ -56,7 +53,8 @@ fn unanswered(setup: Setup, room: usize) -> u32
     ensures { result ≡ or_else (write_refusal (setup_as setup) room) 13 }
 {
     if room < setups::length_of(setup) {
-        return 15;
+        15
+    } else {
+        13
     }
-    13
 }

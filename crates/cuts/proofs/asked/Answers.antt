@@ -22,16 +22,16 @@ returns-then-o-setup-2 c =
 
 pub overflow_mul-o : goal.overflow_mul-o
 overflow_mul-o c =
-    omega (arith, word_product c.args.o.sparsing c.at_least_one-step.result (omega arith) (omega arith))
+    omega (arith, word_product c.args.o.sparsing c.step-step.result (omega arith) (omega arith))
 
 pub returns-then-o-step-gt268435455 : goal.returns-then-o-step-gt268435455
 returns-then-o-step-gt268435455 c =
     λ s e.
     sparse_number s c.args.o e c.args.order (setup_as c.args.setup) c.if-n-ne0.false c.if-order-gt1.false c.if-o-setup.false c.if-o-setup-2.false
-    (omega (arith, c.if-o-step-gt268435455.true, ap (λ (k : ℕ). c.args.o.sparsing * k) c.at_least_one-step.ensures))
+    (omega (arith, c.if-o-step-gt268435455.true, ap (λ (k : ℕ). c.args.o.sparsing * k) c.step-step.ensures))
 
 pub returns : goal.returns
 returns c =
     λ s e.
     no_number s c.args.o e c.args.order (setup_as c.args.setup) c.if-n-ne0.false c.if-order-gt1.false c.if-o-setup.false c.if-o-setup-2.false
-    (omega (arith, c.if-o-step-gt268435455.false, ap (λ (k : ℕ). c.args.o.sparsing * k) c.at_least_one-step.ensures))
+    (omega (arith, c.if-o-step-gt268435455.false, ap (λ (k : ℕ). c.args.o.sparsing * k) c.step-step.ensures))

@@ -69,7 +69,7 @@ returns c =
     let time = c.bits-2.ensures in
     let mark = c.mark_number-mark.ensures in record {
       value = r.0;
-      answer_after = c.put_three.ensures
+      answer_after = c.put_numbers.ensures
           ∙ (λ i. splice a.answer.now 0 (all_bytes 0 8 (value i ∷ time i ∷ mark i ∷ [])))
           ∙ ap {B = List ℕ} (λ (x : Point). splice a.answer.now 0 (all_bytes 0 8 (to_bits binary64 x.value ∷ to_bits binary64 x.time ∷ mark_number x.mark ∷ []))) e
           ∙ r.1;

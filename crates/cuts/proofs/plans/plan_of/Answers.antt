@@ -23,27 +23,6 @@ trig-small c = omega (arith, c.only_if-trig.ensures, only_le (get_or c.args.o.la
 two-small : (c : After-only_if-two) → c.only_if-two.result ≤ 144115188042301440
 two-small c = omega (arith, c.only_if-two.ensures, only_le (get_or c.args.o.layout.lengths 7 0) (c.one_if-rows.result * (c.kept_count-count.result * (c.args.o.kind + 1))), all_small c.one_if-rows.result c.kept_count-count.result c.args.o.kind (omega arith) (omega (arith, c.kept_count-count.ensures.1, c.requires.fp_lt_points.1)) (omega (arith, c.requires.fp_lt_points.2)))
 
-pub overflow_mul-one : goal.overflow_mul-one
-overflow_mul-one c = omega (arith, array_small c.kept_count-count.result c.args.o.kind (omega (arith, c.kept_count-count.ensures.1, c.requires.fp_lt_points.1)) (omega (arith, c.requires.fp_lt_points.2)))
-
-pub overflow_mul-one-2 : goal.overflow_mul-one-2
-overflow_mul-one-2 c = omega (arith, all_small c.one_if-rows.result c.kept_count-count.result c.args.o.kind (omega arith) (omega (arith, c.kept_count-count.ensures.1, c.requires.fp_lt_points.1)) (omega (arith, c.requires.fp_lt_points.2)))
-
-pub overflow_cast-rest : goal.overflow_cast-rest
-overflow_cast-rest c = omega (arith, c.requires.lengths_bound)
-
-pub overflow_cast-rest-2 : goal.overflow_cast-rest-2
-overflow_cast-rest-2 c = omega (arith, c.requires.lengths_bound)
-
-pub overflow_add-rest : goal.overflow_add-rest
-overflow_add-rest c = omega (arith, c.requires.lengths_bound)
-
-pub overflow_add-result : goal.overflow_add-result
-overflow_add-result c = omega (arith, c.requires.lengths_bound)
-
-pub overflow_add-result-2 : goal.overflow_add-result-2
-overflow_add-result-2 c = omega (arith, c.requires.lengths_bound, trig-small (goal.at.overflow_add-result-2 c).After-only_if-trig)
-
 pub overflow_add-result-3 : goal.overflow_add-result-3
 overflow_add-result-3 c = omega (arith, c.requires.lengths_bound, trig-small (goal.at.overflow_add-result-3 c).After-only_if-trig, all_small c.one_if-rows.result c.kept_count-count.result c.args.o.kind (omega arith) (omega (arith, c.kept_count-count.ensures.1, c.requires.fp_lt_points.1)) (omega (arith, c.requires.fp_lt_points.2)))
 
@@ -60,8 +39,8 @@ returns c =
     let two = c.only_if-two.ensures ∙ ap (only_if (get_or a.o.layout.lengths 7 0)) one in
     λ i. record {
       rows = rows i;
-      skip = c.before-2.ensures i;
-      step = c.at_least_one.ensures i;
+      skip = c.saturating_sub.ensures i;
+      step = c.step.ensures i;
       from = a.setup.fp;
       count = kept i;
       trig = trig i;

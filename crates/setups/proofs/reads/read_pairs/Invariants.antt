@@ -7,9 +7,9 @@ use Rattle.setups.specs.Setups.{pairs_as}
 use Rattle.setups.proofs.Folds.{going_on}
 use Rattle.setups.proofs.reads.read_pairs.Given as goal
 
-abbrev pub invariant-loop-left : goal.invariant-loop-left
-invariant-loop-left l =
-    (length l.values ≡ 4) × (l.at ≤ length l.line) × (l.left ≤ 4) × (going_on l.values (pairs_at l.left (drop l.at l.line)) ≡ pairs_as (pairs_at 4 (drop l.start l.line)))
-
-abbrev pub decreases-loop-left : goal.decreases-loop-left
-decreases-loop-left l = l.left
+abbrev pub invariant-loop : goal.invariant-loop
+invariant-loop l = record {
+  four : length l.values ≡ 4;
+  within : l.at ≤ length l.line;
+  same : going_on l.values (pairs_at (4 - l.counter) (drop l.at l.line)) ≡ pairs_as (pairs_at 4 (drop l.start l.line));
+}

@@ -10,7 +10,7 @@ use Rattle.cuts.proofs.Combining.{combined-number, combined-setup}
 use Rattle.tessarquin.specs.Calls.{setup, setup_numbers, combined_bytes, combined_number, combined_left}
 use Rattle.tessarquin.proofs.Slices.{combined-length, own_refused, own_short, own_left}
 use Rattle.tessarquin.proofs.combining.tessarquin_combined.Goals as goal
-use Rattle.tessarquin.proofs.combining.tessarquin_combined.Goals.{After-combined, In-One}
+use Rattle.tessarquin.proofs.combining.tessarquin_combined.Goals.{After-combined, In-Some}
 
 -- the two setups that the call was asked for, and its count
 abbrev first : After-combined → Setup
@@ -26,34 +26,34 @@ number : (c : After-combined) → number_of c.combined.result ≡ combined_refus
 number c = combined-number (first c) (second c) (counted c) c.combined.result c.combined.ensures
 
 -- there is a setup: it is the combined one
-taken : (c : In-One) → combined_refusal (first (goal.at.In-One c).After-combined) (second (goal.at.In-One c).After-combined) ≡ 0
-taken c = sym (number (goal.at.In-One c).After-combined) ∙ ap number_of c.in-One.is
+taken : (c : In-Some) → combined_refusal (first (goal.at.In-Some c).After-combined) (second (goal.at.In-Some c).After-combined) ≡ 0
+taken c = sym (number (goal.at.In-Some c).After-combined) ∙ ap number_of c.in-Some.is
 
 pub returns-then-answer-lt32 : goal.returns-then-answer-lt32
 unfolding combined_number combined_left
 returns-then-answer-lt32 c =
-    let told = own_short (combined_refusal (first (goal.at.returns-then-answer-lt32 c).After-combined) (second (goal.at.returns-then-answer-lt32 c).After-combined)) (combined_bytes (first (goal.at.returns-then-answer-lt32 c).After-combined) (second (goal.at.returns-then-answer-lt32 c).After-combined) (counted (goal.at.returns-then-answer-lt32 c).After-combined)) c.args.answer.now (taken (goal.at.returns-then-answer-lt32 c).In-One)
+    let told = own_short (combined_refusal (first (goal.at.returns-then-answer-lt32 c).After-combined) (second (goal.at.returns-then-answer-lt32 c).After-combined)) (combined_bytes (first (goal.at.returns-then-answer-lt32 c).After-combined) (second (goal.at.returns-then-answer-lt32 c).After-combined) (counted (goal.at.returns-then-answer-lt32 c).After-combined)) c.args.answer.now (taken (goal.at.returns-then-answer-lt32 c).In-Some)
     (omega (arith, c.if-answer-lt32.true, combined-length (first (goal.at.returns-then-answer-lt32 c).After-combined) (second (goal.at.returns-then-answer-lt32 c).After-combined) (counted (goal.at.returns-then-answer-lt32 c).After-combined))) in record {
       value = told.0;
       answer_after = told.1;
     }
 
-pub returns-in-Sparse : goal.returns-in-Sparse
+pub returns-in_default : goal.returns-in_default
 unfolding combined_number combined_left
-returns-in-Sparse c =
-    let told = own_refused (combined_refusal (first (goal.at.returns-in-Sparse c).After-combined) (second (goal.at.returns-in-Sparse c).After-combined)) (combined_bytes (first (goal.at.returns-in-Sparse c).After-combined) (second (goal.at.returns-in-Sparse c).After-combined) (counted (goal.at.returns-in-Sparse c).After-combined)) c.args.answer.now 12
-    (ap number_of (sym c.in-Sparse.is) ∙ number (goal.at.returns-in-Sparse c).After-combined) (λ e. omega (arith, e)) in record {
+returns-in_default c =
+    let told = own_refused (combined_refusal (first (goal.at.returns-in_default c).After-combined) (second (goal.at.returns-in_default c).After-combined)) (combined_bytes (first (goal.at.returns-in_default c).After-combined) (second (goal.at.returns-in_default c).After-combined) (counted (goal.at.returns-in_default c).After-combined)) c.args.answer.now 12
+    (ap number_of (sym c.in_default.is) ∙ number (goal.at.returns-in_default c).After-combined) (λ e. omega (arith, e)) in record {
       value = told.0;
       answer_after = told.1;
     }
 
-pub returns-else-answer-lt32 : goal.returns-else-answer-lt32
+pub returns : goal.returns
 unfolding combined_number combined_left
-returns-else-answer-lt32 c =
+returns c =
     let answer : List ℕ = c.args.answer.now in
-    let same : setup_in c.combined.result ≡ combined (first (goal.at.returns-else-answer-lt32 c).After-combined) (second (goal.at.returns-else-answer-lt32 c).After-combined) (counted (goal.at.returns-else-answer-lt32 c).After-combined) = combined-setup (first (goal.at.returns-else-answer-lt32 c).After-combined) (second (goal.at.returns-else-answer-lt32 c).After-combined) (counted (goal.at.returns-else-answer-lt32 c).After-combined) c.combined.result c.combined.ensures (taken (goal.at.returns-else-answer-lt32 c).In-One) in
-    let r = own_left (combined_refusal (first (goal.at.returns-else-answer-lt32 c).After-combined) (second (goal.at.returns-else-answer-lt32 c).After-combined)) (combined_bytes (first (goal.at.returns-else-answer-lt32 c).After-combined) (second (goal.at.returns-else-answer-lt32 c).After-combined) (counted (goal.at.returns-else-answer-lt32 c).After-combined)) answer (taken (goal.at.returns-else-answer-lt32 c).In-One)
-    (omega (arith, c.if-answer-lt32.false, combined-length (first (goal.at.returns-else-answer-lt32 c).After-combined) (second (goal.at.returns-else-answer-lt32 c).After-combined) (counted (goal.at.returns-else-answer-lt32 c).After-combined))) in record {
+    let same : setup_in c.combined.result ≡ combined (first (goal.at.returns c).After-combined) (second (goal.at.returns c).After-combined) (counted (goal.at.returns c).After-combined) = combined-setup (first (goal.at.returns c).After-combined) (second (goal.at.returns c).After-combined) (counted (goal.at.returns c).After-combined) c.combined.result c.combined.ensures (taken (goal.at.returns c).In-Some) in
+    let r = own_left (combined_refusal (first (goal.at.returns c).After-combined) (second (goal.at.returns c).After-combined)) (combined_bytes (first (goal.at.returns c).After-combined) (second (goal.at.returns c).After-combined) (counted (goal.at.returns c).After-combined)) answer (taken (goal.at.returns c).In-Some)
+    (omega (arith, c.if-answer-lt32.false, combined-length (first (goal.at.returns c).After-combined) (second (goal.at.returns c).After-combined) (counted (goal.at.returns c).After-combined))) in record {
       value = r.0;
-      answer_after = c.put_setup.ensures ∙ ap (λ (o : Setup). splice answer 0 (all_bytes 0 8 (setup_numbers o))) (ap setup_in (sym c.in-One.is) ∙ same) ∙ r.1;
+      answer_after = c.put_setup.ensures ∙ ap (λ (o : Setup). splice answer 0 (all_bytes 0 8 (setup_numbers o))) (ap setup_in (sym c.in-Some.is) ∙ same) ∙ r.1;
     }

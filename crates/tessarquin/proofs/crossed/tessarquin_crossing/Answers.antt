@@ -41,5 +41,5 @@ returns c =
     let z = c.if-t-ne0.false in
     let r = own_left (crossing_refusal a.block.now a.array a.segment a.level) (crossing_bytes a.block.now a.array a.segment a.level) a.answer.now (sym (own (goal.at.returns c).After-tell-t) ∙ z) (omega (arith, c.if-answer-lt16.false, crossing-length a.block.now a.array a.segment a.level)) in record {
       value = r.0;
-      answer_after = c.put_pair.ensures ∙ ap (splice a.answer.now 0) (pair a.block.now a.array a.segment a.level c.first.result c.first.ensures c.tell-t.result c.tell-t.ensures z) ∙ r.1;
+      answer_after = c.put_numbers.ensures ∙ ap (splice a.answer.now 0) (pair a.block.now a.array a.segment a.level c.first.result c.first.ensures c.tell-t.result c.tell-t.ensures z) ∙ r.1;
     }

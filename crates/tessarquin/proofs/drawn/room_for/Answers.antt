@@ -8,5 +8,5 @@ use Rattle.tessarquin.proofs.drawn.room_for.Goals as goal
 pub returns-then-answer-lt24 : goal.returns-then-answer-lt24
 returns-then-answer-lt24 c = let a = c.args in sym (ap (λ (t : Bool). cond t 0 (a.slice / 8)) (lt-ltb a.answer 24 c.if-answer-lt24.true))
 
-pub returns : goal.returns
-returns c = let a = c.args in sym (ap (λ (t : Bool). cond t 0 (a.slice / 8)) (le-ltb a.answer 24 c.if-answer-lt24.false))
+pub returns-else-answer-lt24 : goal.returns-else-answer-lt24
+returns-else-answer-lt24 c = let a = c.args in sym (ap (λ (t : Bool). cond t 0 (a.slice / 8)) (le-ltb a.answer 24 c.if-answer-lt24.false))

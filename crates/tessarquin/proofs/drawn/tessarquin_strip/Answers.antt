@@ -6,6 +6,7 @@ use mir.Syntax.{w64}
 use mir.ValLaws.{to_z-of_z}
 use Rattle.strips.specs.Strips.{strip_refusal}
 use Rattle.strips.specs.Answers.{unsigned}
+use native.Mathlib.Omega.{arith}
 use Rattle.tessarquin.proofs.Stripping.{strip-refused, strip-room, strip_answered}
 use Rattle.tessarquin.proofs.drawn.tessarquin_strip.Goals as goal
 use Rattle.tessarquin.proofs.drawn.tessarquin_strip.Goals.{Else-number-ne0}
@@ -31,15 +32,15 @@ room c =
 pub put_columns-d-requires : goal.put_columns-d-requires
 put_columns-d-requires c = record { opens = c.open-o.ensures; accepts = (room (goal.at.put_columns-d-requires c).Else-number-ne0).1 }
 
-pub put_three-requires : goal.put_three-requires
-put_three-requires c = (room (goal.at.put_three-requires c).Else-number-ne0).0
+pub put_numbers-requires : goal.put_numbers-requires
+put_numbers-requires c = (omega arith, (room (goal.at.put_numbers-requires c).Else-number-ne0).0)
 
 pub returns : goal.returns
 returns c =
     let a = c.args in
     let r = strip_answered a.block.now a.array a.segment a.columns a.least.now a.greatest.now a.answer.now c.room_for-low.result c.room_for-low.ensures c.judged-number.result (c.judged-number.ensures a.block.now c.open-o.ensures) c.if-number-ne0.false
     c.put_columns-d.result c.put_columns-d.ensures.value c.unsigned.result (c.unsigned.ensures ∙ ap (unsigned 8) (to_z-of_z w64 c.put_columns-d.result.sum (record { sfits = c.struct_told-1.given.1.0.1 })))
-    _ _ _ c.put_columns-d.ensures.least_after c.put_columns-d.ensures.greatest_after c.put_three.ensures in
+    _ _ _ c.put_columns-d.ensures.least_after c.put_columns-d.ensures.greatest_after c.put_numbers.ensures in
     record {
       value = r.0;
       least_after = r.1;

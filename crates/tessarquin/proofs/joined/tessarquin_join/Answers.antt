@@ -30,7 +30,7 @@ returns c =
     let a = c.args in
     let w = c.join-w in
     let r =
-    join_answered a.parts.now a.out.now a.answer.now (omega (arith, c.if-answer-lt16.false)) w.result _ (record { answers = c.join-w.ensures.value; leaves = c.join-w.ensures.out_after }) c.if-w-ne0.false _ c.put_pair.ensures in
+    join_answered a.parts.now a.out.now a.answer.now (omega (arith, c.if-answer-lt16.false)) w.result _ (record { answers = c.join-w.ensures.value; leaves = c.join-w.ensures.out_after }) c.if-w-ne0.false _ c.put_numbers.ensures in
     record {
       value = r.0;
       out_after = r.1;

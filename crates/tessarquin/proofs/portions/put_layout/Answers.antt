@@ -17,6 +17,6 @@ returns c =
     c.put_ten-2.ensures
     ∙ ap {B = List ℕ} (λ u. splice u 120 (all_bytes 0 8 starts))
     (c.put_ten.ensures
-    ∙ ap {B = List ℕ} (λ u. splice u 40 (all_bytes 0 8 lengths)) c.put_five.ensures
+    ∙ ap {B = List ℕ} (λ u. splice u 40 (all_bytes 0 8 lengths)) c.put_numbers.ensures
     ∙ numbers_then out 0 5 five lengths refl (omega (arith, c.requires.in_bounds)))
     ∙ numbers_then out 0 15 (five ++ lengths) starts (omega (arith, c.requires.lengths_len)) (omega (arith, c.requires.in_bounds))

@@ -40,7 +40,7 @@ returns-then-s c =
     let r = own_left (refusal a.block.now) (label_bytes a.block.now a.fallback.now) a.answer.now (accepts (goal.at.returns-then-s c).Else-o-ne0) (omega (arith, c.if-answer-lt24.false, label_length a.block.now a.fallback.now)) in
     record {
       value = r.0;
-      answer_after = c.put_three.ensures ∙ ap {B = List ℕ} (splice a.answer.now 0) (label_other a.block.now a.fallback.now c.label_span-s.result c.label_span-s.ensures c.if-s.true) ∙ r.1;
+      answer_after = c.put_numbers.ensures ∙ ap {B = List ℕ} (splice a.answer.now 0) (label_other a.block.now a.fallback.now c.label_span-s.result c.label_span-s.ensures c.if-s.true) ∙ r.1;
     }
 
 pub returns : goal.returns
@@ -50,5 +50,5 @@ returns c =
     let r = own_left (refusal a.block.now) (label_bytes a.block.now a.fallback.now) a.answer.now (accepts (goal.at.returns c).Else-o-ne0) (omega (arith, c.if-answer-lt24.false, label_length a.block.now a.fallback.now)) in
     record {
       value = r.0;
-      answer_after = c.put_three-2.ensures ∙ ap {B = List ℕ} (splice a.answer.now 0) (label_own a.block.now a.fallback.now c.label_span-s.result c.label_span-s.ensures c.if-s.false) ∙ r.1;
+      answer_after = c.put_numbers-2.ensures ∙ ap {B = List ℕ} (splice a.answer.now 0) (label_own a.block.now a.fallback.now c.label_span-s.result c.label_span-s.ensures c.if-s.false) ∙ r.1;
     }

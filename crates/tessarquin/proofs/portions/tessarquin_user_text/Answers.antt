@@ -54,5 +54,5 @@ returns c =
     let r = own_left (refusal a.block.now) (text_bytes a.block.now) a.answer.now (accepts (goal.at.returns c).Else-o-ne0) (omega (arith, c.if-answer-lt16.false, pair-length (text_start a.block.now) (length (text_of a.block.now)))) in
     record {
       value = r.0;
-      answer_after = c.put_pair.ensures ∙ (λ i. splice a.answer.now 0 (all_bytes 0 8 (t.starts i ∷ sym (span_length t) i ∷ []))) ∙ r.1;
+      answer_after = c.put_numbers.ensures ∙ (λ i. splice a.answer.now 0 (all_bytes 0 8 (t.starts i ∷ sym (span_length t) i ∷ []))) ∙ r.1;
     }
