@@ -13,21 +13,6 @@ use Rattle.scale.proofs.time.Goals as goal
 abbrev Timed : ℕ → Float → TimeRule → Type 0
 Timed i r rule = (r ≡ time_by (rule_as rule) i) × Near 1074 (exact_time (rule_as rule) i) r
 
-pub along-requires : goal.along-requires
-along-requires c = record {
-  finite_pair = elim c.in-Segment.is [
-    | inl e ↦ subst FiniteRule e c.requires.finite_rule
-    | inr e ↦ subst FiniteRule e c.requires.finite_rule
-  ];
-  i_bound = omega arith;
-}
-
-pub after-requires : goal.after-requires
-after-requires c = record {
-  finite_pair = subst FiniteRule c.in-Ris.is c.requires.finite_rule;
-  i_bound = omega arith;
-}
-
 pub returns-in-Segment : goal.returns-in-Segment
 unfolding time_by
 returns-in-Segment c =
@@ -35,13 +20,6 @@ returns-in-Segment c =
       | inl e ↦ subst (Timed c.args.i c.along.result) (sym e) (c.along.ensures.value, c.along.ensures.near)
       | inr e ↦ subst (Timed c.args.i c.along.result) (sym e) (c.along.ensures.value, c.along.ensures.near)
     ] in record {
-      value = told.0;
-      near = told.1;
-    }
-
-pub returns-in-Ris : goal.returns-in-Ris
-returns-in-Ris c =
-    let told = subst (Timed c.args.i c.after.result) (sym c.in-Ris.is) (c.after.ensures.value, c.after.ensures.near) in record {
       value = told.0;
       near = told.1;
     }
