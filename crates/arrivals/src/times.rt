@@ -5,6 +5,8 @@ ghost use Rattle.joining.specs.Join.{parts_in};
 ghost use Rattle.arrivals.specs.Arrivals.{Timed, times_at};
 
 // Whether no TRIGGER_TIME is less than that of the index before it, of `count` parts. It starts at `trig` in each payload.
+// Kept a function of its own, so that its times are not on the stack while parts are opened.
+#[inline(never)]
 pub fn rise(parts: &[u8], order: u32, long: usize, trig: usize, count: usize) -> bool
     requires timed { Timed order long trig parts.now }
     requires count_value { (count ≡ length (parts_in parts.now)) × (count ≤ 1000) }

@@ -24,7 +24,7 @@ pub fn read(s: &[u8], from: usize, to: usize) -> Run
         if !b.is_ascii_digit() {
             return Run { end: at, value };
         }
-        value = value * 10 + u64::from(b - b'0');
+        value = value * 10 + (u64::from(b) - 48);
     }
     Run { end: to, value }
 }
