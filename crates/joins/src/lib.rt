@@ -93,6 +93,8 @@ fn total_of(lead: Lead, count: usize) -> usize
 }
 
 // Whether the joined block keeps the rules: its length, RISTIME in one part alone, and trigger times that do not run backwards. All else it has from its parts.
+// Kept a function of its own, so that its lengths are not on the stack while parts are opened.
+#[inline(never)]
 fn is_block(parts: &[u8], count: usize, end: usize) -> bool
     requires { Counted parts.now count end }
     ensures { (result ≡ true) ↔ (refusal (joined_bytes (parts_in parts.now)) ≡ 0) }

@@ -1,47 +1,47 @@
 -- Ten longs, each at its offset of the template.
-use mathlib.Core.Path.{◌≡◌, refl, sym, ◌∙◌}
-use Prim.Native.Nat.{ℕ, zero, suc, ◌+◌, ◌*◌, ◌<◌}
-use native.Mathlib.Omega.{arith}
-use mathlib.Core.List.{List, [], ◌∷◌}
-use lib.ListN.{get_or}
-use lib.Seq.{take_all}
-use lib.Dec.{lit<}
-use Rattle.rules.specs.Template.{template, width_at, head_at}
-use Rattle.numbers.proofs.Reading.{window, part_window}
+use borrow.Author.Rules.{rules}
+use Rattle.rules.specs.Template.{template, width_at}
 use Rattle.descriptor.proofs.fields.lengths_of.Goals as goal
 
-ten_longs : (k : ℕ) → k < 10 → width_at template (36 + 4 * k) ≡ 4
+pub long-requires : goal.long-requires
 unfolding width_at template
-ten_longs zero l = refl
-ten_longs (suc zero) l = refl
-ten_longs (suc (suc zero)) l = refl
-ten_longs (suc (suc (suc zero))) l = refl
-ten_longs (suc (suc (suc (suc zero)))) l = refl
-ten_longs (suc (suc (suc (suc (suc zero))))) l = refl
-ten_longs (suc (suc (suc (suc (suc (suc zero)))))) l = refl
-ten_longs (suc (suc (suc (suc (suc (suc (suc zero))))))) l = refl
-ten_longs (suc (suc (suc (suc (suc (suc (suc (suc zero)))))))) l = refl
-ten_longs (suc (suc (suc (suc (suc (suc (suc (suc (suc zero))))))))) l = refl
-ten_longs (suc (suc (suc (suc (suc (suc (suc (suc (suc (suc k)))))))))) l = absurd (omega arith)
+long-requires c = search rules
 
-pub long-requires-clause-at_value : goal.long-requires-clause-at_value
-long-requires-clause-at_value c = ten_longs c.loop-k.k c.loop-k-test.true
+pub long-requires-2 : goal.long-requires-2
+unfolding width_at template
+long-requires-2 c = search rules
+
+pub long-requires-3 : goal.long-requires-3
+unfolding width_at template
+long-requires-3 c = search rules
+
+pub long-requires-4 : goal.long-requires-4
+unfolding width_at template
+long-requires-4 c = search rules
+
+pub long-requires-5 : goal.long-requires-5
+unfolding width_at template
+long-requires-5 c = search rules
+
+pub long-requires-6 : goal.long-requires-6
+unfolding width_at template
+long-requires-6 c = search rules
+
+pub long-requires-7 : goal.long-requires-7
+unfolding width_at template
+long-requires-7 c = search rules
+
+pub long-requires-8 : goal.long-requires-8
+unfolding width_at template
+long-requires-8 c = search rules
+
+pub long-requires-9 : goal.long-requires-9
+unfolding width_at template
+long-requires-9 c = search rules
+
+pub long-requires-10 : goal.long-requires-10
+unfolding width_at template
+long-requires-10 c = search rules
 
 pub returns : goal.returns
-returns c =
-    let ls : List ℕ = c.loop-k.lengths in
-    let e : ls ≡ window ls 0 10 = sym (take_all 10 ls (omega arith)) ∙ part_window ls 0 10 (omega arith) in
-    let is : (j : ℕ) → j < 10 → get_or ls j 0 ≡ head_at c.args.order c.args.start c.args.block.now (36 + 4 * j) = λ j h. c.loop-k.invariant.1 j (omega arith) in
-    e
-    ∙ λ i.
-    is 0 (lit< tt) i
-    ∷ is 1 (lit< tt) i
-    ∷ is 2 (lit< tt) i
-    ∷ is 3 (lit< tt) i
-    ∷ is 4 (lit< tt) i
-    ∷ is 5 (lit< tt) i
-    ∷ is 6 (lit< tt) i
-    ∷ is 7 (lit< tt) i
-    ∷ is 8 (lit< tt) i
-    ∷ is 9 (lit< tt) i
-    ∷ []
+returns c = cc

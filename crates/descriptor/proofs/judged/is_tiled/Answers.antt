@@ -1,17 +1,16 @@
--- The four tests of rule 5, joined from the left as the code joins them.
-use mathlib.Core.Path.{◌≡◌, ◌∙◌}
-use mathlib.Core.Bool.{◌&&◌}
-use lib.Dec.{eqb}
-use lib.ListN.{get_or}
-use Rattle.rules.specs.Numbers.{total}
-use Rattle.rules.specs.Rules.{every?, long≥0, tiles}
+-- The tests of rule 5, over the ten lengths taken out of their array.
+use mathlib.Core.Path.{◌≡◌, sym, ap, ◌∙◌}
+use mathlib.Core.List.{List}
+use Prim.Native.Nat.{ℕ}
+use native.Mathlib.Omega.{arith}
+use lib.Seq.{take_all}
+use Rattle.rules.specs.Rules.{all, tiles}
+use Rattle.numbers.proofs.Reading.{window, part_window}
 use Rattle.numbers.proofs.Bools.{joined-all}
-use Rattle.descriptor.proofs.Lengths.{longs, sum_is}
 use Rattle.descriptor.proofs.judged.is_tiled.Goals as goal
 
 pub returns : goal.returns
 returns c =
-    let a = c.args in
-    let long : c.all_long.result ≡ every? long≥0 a.lengths = longs a.lengths c.all_long.result c.all_long.ensures in
-    let sum : c.sum_of.result ≡ total a.lengths = c.sum_of.ensures ∙ sum_is a.lengths in
-    (λ i. eqb (get_or a.lengths 0 0) 346 && c.eq.ensures i && long i && eqb (sum i) a.size) ∙ joined-all (tiles a.size a.lengths)
+    let x = c.args in
+    let e : x.lengths ≡ window x.lengths 0 10 = sym (take_all 10 x.lengths (omega arith)) ∙ part_window x.lengths 0 10 (omega arith) in
+    rw (c.sum_of.ensures, c.all_long.ensures, c.all_zero.ensures) (joined-all (tiles x.size (window x.lengths 0 10)) ∙ ap (λ (l : List ℕ). all (tiles x.size l)) (sym e))
