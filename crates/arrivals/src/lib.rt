@@ -20,7 +20,9 @@ pub struct Judged {
     pub end: usize,
 }
 
-// Whether the parts are good and belong together: 1 to 8 and 20 for the first bad one, or 16, or 0.
+// Whether the parts are good and belong together: 1 to 8 and 20 for the first bad one, or 16, or 0. Kept a function of its own, so that what it
+// keeps on the stack is gone when the joined block is judged.
+#[inline(never)]
 pub fn judge(parts: &[u8]) -> Judged
     ensures { Judges parts.now result }
 {

@@ -56,6 +56,8 @@ pub fn join_nowhere(parts: &[u8]) -> u32
 }
 
 // Parts that belong together and whose joined block keeps the rules; or the number of the refusal, which is that in any room.
+// In both calls it is a part of them, so that it takes no stack of its own below them.
+#[inline(always)]
 fn joinable(parts: &[u8]) -> Result<Judged, u32>
     ensures ok { IfOk result (λ j. Judges parts.now j × (j.refusal ≡ 0) × (refusal (joined_bytes (parts_in parts.now)) ≡ 0)) }
     ensures err { IfErr result (λ n. ¬ (n ≡ 0) × ((room : ℕ) → n ≡ join_refusal parts.now room)) }

@@ -1,3 +1,4 @@
+pub mod Comparing
 pub mod Standing
 pub mod Scattering
 pub mod Walking

@@ -55,12 +55,17 @@ fn refused(number: u32) -> Part
     }
 }
 
-// Whether the bytes from a on, `count` of them, are those from b on.
+// Whether the bytes from a on, `count` of them, are those from b on. `==` of the two slices was tried, and is slower: this compiles to vector
+// code without a call.
 pub fn same_bytes(parts: &[u8], a: usize, b: usize, count: usize) -> bool
     requires { (a + count ≤ length parts.now) × (b + count ≤ length parts.now) }
     ensures { result ≡ same (part parts.now a count) (part parts.now b count) }
 {
-    parts[a..a + count] == parts[b..b + count]
+    let mut ok = true;
+    for i in 0..count {
+        ok &= parts[a + i] == parts[b + i];
+    }
+    ok
 }
 
 // The bytes from `from` on of each part's payload, `size` of them, at out from `at` on, by index: those of the indices behind `skip`, `count` of them.
