@@ -3,6 +3,7 @@
 
 ghost use Rattle.std.specs.Prelude.{◌≡◌, ◌+◌, ◌-◌, ◌≤◌, ◌<◌, length, take, drop};
 ghost use Rattle.rules.specs.Numbers.{splice};
+ghost use Rattle.rules.specs.Rules.{digit?};
 ghost use Rattle.digits.specs.Digits.{sign, spelled, run_of};
 ghost use Rattle.digits.specs.Digits.{places as Digits·places};
 
@@ -20,13 +21,20 @@ pub fn read(s: &[u8], from: usize, to: usize) -> Run
 {
     let mut value: u64 = 0;
     for at in from..to {
-        let b = s[at];
-        if !b.is_ascii_digit() {
+        let b = u64::from(s[at]);
+        if !is_digit(b) {
             return Run { end: at, value };
         }
-        value = value * 10 + (u64::from(b) - 48);
+        value = value * 10 + (b - 48);
     }
     Run { end: to, value }
+}
+
+// Whether a byte is a decimal digit, judged in the 64 bits in which it is added: judged as a byte it costs an instruction more.
+fn is_digit(b: u64) -> bool
+    ensures { result ≡ digit? b }
+{
+    (48 <= b) & (b <= 57)
 }
 
 // How many decimal digits n has.

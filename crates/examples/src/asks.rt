@@ -142,7 +142,20 @@ pub fn part<'a>(block: &'a [u8], n: usize) -> &'a [u8] {
     &block[..n.min(block.len())]
 }
 
-// The number in two digits, and the case. Where the output takes no more, the rest is lost: a case has no other answer than its line.
-pub fn print(mut stdout: Stdout, number: u32, name: &str) {
-    let _ = writeln!(stdout, "{number:02} {name}");
+// The number in two digits, and the case.
+pub fn print(stdout: Stdout, number: u32, name: &str) {
+    print_to(stdout, number, name, "\n");
+}
+
+// The number in two digits, the case, and how the line ends: three writes, each made also where the one before it failed, which one line
+// of `writeln!` would not do. What the output does not take is lost: a case has no other answer than its line.
+pub fn print_to(mut stdout: Stdout, number: u32, name: &str, end: &str) {
+    let word = [
+        b'0' + (number / 10 % 10) as u8,
+        b'0' + (number % 10) as u8,
+        b' ',
+    ];
+    for piece in [&word, name.as_bytes(), end.as_bytes()] {
+        let _ = stdout.write_all(piece);
+    }
 }

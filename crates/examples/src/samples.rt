@@ -2,7 +2,7 @@
 ghost use Rattle.std.specs.Prelude.{◌≤◌, length};
 
 use crate::{asks, blocks};
-use std::io::{Stdout, Write};
+use std::io::Stdout;
 
 // The bits of a gain of 0.5.
 const HALF: u32 = 0x3f00_0000;
@@ -74,7 +74,7 @@ pub fn floors(stdout: Stdout, name: &str, samples: &[u8; 12], order: u16, k: usi
 
 // Asks something of a block with these samples and this gain.
 fn asked<F: FnOnce(&[u8]) -> u32>(
-    mut stdout: Stdout,
+    stdout: Stdout,
     name: &str,
     samples: &[u8],
     kind: u16,
@@ -89,6 +89,10 @@ fn asked<F: FnOnce(&[u8]) -> u32>(
     blocks::make_of(samples, kind, order, &mut block);
     blocks::put_gain(gain, order, &mut block);
     let number = ask(asks::part(&block, 11 + 346 + samples.len()));
-    let order = if order == 0 { "HIFIRST" } else { "LOFIRST" };
-    let _ = writeln!(stdout, "{number:02} {name}, {order}");
+    let end = if order == 0 {
+        ", HIFIRST\n"
+    } else {
+        ", LOFIRST\n"
+    };
+    asks::print_to(stdout, number, name, end);
 }

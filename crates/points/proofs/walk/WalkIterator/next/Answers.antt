@@ -4,4 +4,4 @@ use Rattle.points.proofs.Runs.{fewer}
 use Rattle.points.proofs.walk.WalkIterator.next.Goals as goal
 
 pub returns-clause-goes : goal.returns-clause-goes
-returns-clause-goes c = fewer (λ _. tt) _ _ c.step_at.result (record { answers = c.step_at.ensures; same_block = refl; moves = c.after-self.ensures })
+returns-clause-goes c = fewer (λ _. tt) _ _ c.stepped-point.result (record { answers = c.stepped-point.ensures; same_block = refl; moves = c.advance.ensures })
